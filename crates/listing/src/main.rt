@@ -1,0 +1,147 @@
+// Prints what one round makes of the sheet on standard input: each link's fraction before and after.
+use hjerringsel::Answer;
+use hjerringsel::Refusal;
+use libc::STDOUT_FILENO;
+ghost use Prim.Native.Nat.{_≤_};
+
+// Answering 0 past the end spares every reader a condition on the bytes.
+fn byte_at(s: &[u8], i: usize) -> u8 {
+    if i < s.len() {
+        return s[i];
+    }
+    0
+}
+
+fn wide(x: u8) -> u64
+    ensures { λ r. ⌜ r ≤ 255 ⌝ }
+{
+    x as u64
+}
+
+fn whole(x: u8) -> usize
+    ensures { λ r. ⌜ r ≤ 255 ⌝ }
+{
+    x as usize
+}
+
+// A number of four bytes has the high byte first.
+fn joined(a: u8, b: u8, c: u8, d: u8) -> u64 {
+    wide(a) * 16777216 + wide(b) * 65536 + wide(c) * 256 + wide(d)
+}
+
+// The fraction is the last four bytes of a link record, which begins at `at`.
+fn fraction(s: &[u8], at: usize) -> u64
+    requires { ⌜ at ≤ 8192 ⌝ }
+{
+    joined(
+        byte_at(s, at + 4),
+        byte_at(s, at + 5),
+        byte_at(s, at + 6),
+        byte_at(s, at + 7),
+    )
+}
+
+fn print_link(before: &[u8], after: &[u8], at: usize)
+    requires { ⌜ at ≤ 8192 ⌝ }
+{
+    io::print_decimal(STDOUT_FILENO, wide(byte_at(before, at + 1)));
+    io::write_all(STDOUT_FILENO, b" ");
+    io::print_decimal(STDOUT_FILENO, wide(byte_at(before, at + 2)));
+    io::write_all(STDOUT_FILENO, b" ");
+    io::print_decimal(STDOUT_FILENO, fraction(before, at));
+    io::write_all(STDOUT_FILENO, b" ");
+    io::print_decimal(STDOUT_FILENO, fraction(after, at));
+    io::write_all(STDOUT_FILENO, b"\n");
+}
+
+// The links begin after the head, 7 bytes, and the nodes, 6 bytes each.
+fn first_link(sheet: &[u8]) -> usize
+    ensures { λ r. ⌜ r ≤ 1537 ⌝ }
+{
+    7 + 6 * whole(byte_at(sheet, 1))
+}
+
+// Each link has 8 bytes; no accepted sheet has more than 512, and none is shorter than its first link.
+fn count_links(length: usize, first: usize) -> usize
+    ensures { λ r. ⌜ r ≤ 512 ⌝ }
+{
+    if length < first {
+        return 0;
+    }
+    let count = (length - first) / 8;
+    if count > 512 {
+        return 512;
+    }
+    count
+}
+
+fn print_links(before: &[u8], after: &[u8]) {
+    let first = first_link(before);
+    let count = count_links(before.len(), first);
+    let mut j = 0;
+    while j < count {
+        print_link(before, after, first + 8 * j);
+        j += 1;
+    }
+}
+
+fn number_of(r: Refusal) -> u64 {
+    match r {
+        Refusal::CutShort(_) => 1,
+        Refusal::WrongKind(_) => 2,
+        Refusal::OutOfRange(_) => 3,
+        Refusal::NotRising(_) => 4,
+        Refusal::BytesAfter(_) => 5,
+        Refusal::NoOpposite(_) => 6,
+        Refusal::WrongSum(_) => 7,
+        Refusal::OnLoop(_) => 8,
+        Refusal::TooShort(_) => 9,
+        Refusal::NotWaiting(_) => 10,
+        Refusal::ListEnds(_) => 11,
+        Refusal::NoSuchLink(_) => 12,
+    }
+}
+
+fn place_of(r: Refusal) -> u64 {
+    match r {
+        Refusal::CutShort(p) => p as u64,
+        Refusal::WrongKind(p) => p as u64,
+        Refusal::OutOfRange(p) => p as u64,
+        Refusal::NotRising(p) => p as u64,
+        Refusal::BytesAfter(p) => p as u64,
+        Refusal::NoOpposite(p) => p as u64,
+        Refusal::WrongSum(p) => p as u64,
+        Refusal::OnLoop(p) => p as u64,
+        Refusal::TooShort(p) => p as u64,
+        Refusal::NotWaiting(p) => p as u64,
+        Refusal::ListEnds(p) => p as u64,
+        Refusal::NoSuchLink(p) => p as u64,
+    }
+}
+
+fn print_refusal(r: Refusal) {
+    io::write_all(STDOUT_FILENO, b"refused ");
+    io::print_decimal(STDOUT_FILENO, number_of(r));
+    io::write_all(STDOUT_FILENO, b" at ");
+    io::print_decimal(STDOUT_FILENO, place_of(r));
+    io::write_all(STDOUT_FILENO, b"\n");
+}
+
+// A function of its own, so that what is read keeps its length in the proof.
+fn list(sheet: &[u8]) {
+    let mut after = [0u8; 8192];
+    let answer = hjerringsel::next(sheet, &mut after);
+    match answer {
+        Answer::Refused(r) => print_refusal(r),
+        Answer::Done(_) => {
+            io::write_all(STDOUT_FILENO, b"from to before after\n");
+            print_links(sheet, &after);
+        }
+    }
+}
+
+fn main() {
+    let mut sheet = [0u8; 8192];
+    let n = io::read_full(libc::STDIN_FILENO, &mut sheet);
+    list(&sheet[..n]);
+}

@@ -1,0 +1,91 @@
+-- A delivery over the slices is a delivery by the rules.
+use Prim.Native.Nat.{ℕ, _+_, _*_, _/_, _≤_, _<_}
+use native.Mathlib.Omega.{arith}
+use native.Mathlib.Decide.{decLt}
+use mathlib.Core.Path.{_≡_, refl, sym, ap, _∙_}
+use mathlib.Core.Bool.{Bool, true, false}
+use mathlib.Core.List.{List}
+use lib.ListN.{getD, set}
+use lib.Dec.{eqb}
+use borrow.Author.Tests.{eqb-true}
+use Rattle.rules.specs.Sheet.{Link, Sheet}
+use Rattle.rules.specs.Desk.{Told, silent, told, heard, delayTold, message}
+use Rattle.rules.specs.Messages.{desk, linkOf, sender}
+use Rattle.rules.proofs.Right.{Right}
+use Rattle.rules.proofs.Words.{delay-top}
+use Rattle.desk.specs.declared.Message.{Message}
+use Rattle.desk.specs.Ways.{toldOf, messageSaid}
+use Rattle.sheet.specs.declared.SheetHeld.{SheetHeld}
+use Rattle.sheet.specs.Held.{sheetSaid}
+use Rattle.network.proofs.Rows.{held-length, held-at}
+use Rattle.node.specs.Net.{Tells, stateSaid, SmallInbox, Net}
+use Rattle.node.proofs.Held.{state-at, links-few, turns, desk-held, row-held}
+use Rattle.messages.specs.declared.Tally.{Tally}
+use Rattle.messages.specs.State.{Kept, Stored}
+use Rattle.messages.specs.Round.{Deliverable, Delivered}
+use Rattle.messages.proofs.Storing.{from-in, link-at, room-kept}
+
+module _ {h : SheetHeld} {tr fs ts ls xs ss gs ps os line : List ℕ} (net : Net h tr fs ts ls xs ss gs ps os line) {inbox qs : List ℕ} {t : Tally} (kept : Kept h tr fs ts ls xs ss os inbox qs t) {j : ℕ} (inside : j < h .links) where
+  pub deliverable : SmallInbox inbox → Deliverable (h .head .step .0) j tr fs ss gs ps line xs os inbox qs t
+  deliverable small = record {
+    step-top = net .graph .sound .step-top;
+    traffic = net .graph .traffic-size;
+    link = link-at kept inside;
+    row = row-held net inbox (kept .inbox-size) (getD fs j 0) (from-in kept inside) small;
+    room = room-kept kept inside;
+  }
+
+  -- the message that link j's node works out
+  message-held : {m : Message} → Tells m (h .head .step .0) (getD tr (getD fs j 0) 0) ss line xs inbox (getD fs j 0)
+      → messageSaid m ≡ message (sender (sheetSaid h tr fs ts ls xs) (stateSaid (h .links) os inbox) j)
+  message-held tells =
+      let low : getD fs j 0 < h .head .nodes = from-in kept inside in
+      tells .said ts (omega (arith, net .graph .rows .top (getD fs j 0 + 1) (omega arith), links-few (net .graph), net .graph .to-size))
+      ∙ ap message (sym (desk-held net inbox (kept .inbox-size) (getD fs j 0) low))
+      ∙ ap (λ (l : Link). message (desk (sheetSaid h tr fs ts ls xs) (stateSaid (h .links) os inbox) (l .from))) (sym (held-at (h .links) fs ts ls xs j inside))
+
+pub delivered-is : {h : SheetHeld} {j w : ℕ} {tr fs ss gs ps line xs os inbox qs inbox' qs' : List ℕ} {t t' : Tally} {m : Message}
+    → Tells m (h .head .step .0) (getD tr (getD fs j 0) 0) ss line xs inbox (getD fs j 0) → toldOf w ≡ messageSaid m
+    → Stored j w fs xs os inbox qs inbox' qs' t t' → Delivered h j tr fs ss gs ps line xs os inbox qs inbox' qs' t t'
+delivered-is {h} {j} {os = os} {inbox = inbox} tells word put = record {
+  said = λ net kept inside. put .said kept inside ∙ ap (set (stateSaid (h .links) os inbox) j) (word ∙ message-held net kept inside tells);
+  keeps = λ net kept inside. put .keeps kept inside;
+}
+
+-- ---- in a right state the stored delays are small
+told-delay : (x : ℕ) → delayTold (toldOf x) ≡ x / 4
+told-delay x = go (eqb x 0) refl
+  where
+    go : (b : Bool) → eqb x 0 ≡ b → delayTold (toldOf x) ≡ x / 4
+    go true e = let z = eqb-true x 0 e in rw z
+    go false e = rw e
+
+module _ {h : SheetHeld} {tr fs ts ls xs ss os inbox qs : List ℕ} {t : Tally} (kept : Kept h tr fs ts ls xs ss os inbox qs t) where
+  abbrev s : Sheet
+  s = sheetSaid h tr fs ts ls xs
+
+  pub right-small : Right s (stateSaid (h .links) os inbox) → SmallInbox inbox
+  right-small right k = go (decLt k (h .links))
+    where
+      -- what stands at place k was delivered on the opposite link
+      at-place : k < h .links → toldOf (getD inbox k 0) ≡ getD (stateSaid (h .links) os inbox) (getD os k 0) silent
+      at-place a = sym (state-at (h .links) os inbox (getD os k 0) (kept .graph .opposites .low k a) ∙ ap (λ (x : ℕ). toldOf (getD inbox x 0)) (turns (kept .graph) k a))
+
+      small : (w : Told) → (heard w ≡ true → delayTold w ≤ 63 * 1048576) → delayTold w ≤ 63 * 1048576
+      small silent f = omega arith
+      small (told m b) f = f refl
+
+      go : Dec (k < h .links) → getD inbox k 0 / 4 ≤ 63 * 1048576
+      go (no n) = let z = kept .beyond k (omega arith) in rw z (omega arith)
+      go (yes a) =
+          let o : getD os k 0 < h .links = kept .graph .opposites .low k a in
+          omega (
+            arith,
+            told-delay (getD inbox k 0),
+            small (toldOf (getD inbox k 0)) (λ e.
+                omega (
+                  arith,
+                  ap delayTold (at-place a ∙ right .holds (getD os k 0) (omega (arith, held-length (h .links) fs ts ls xs)) (ap heard (sym (at-place a)) ∙ e)),
+                  delay-top (kept .graph .sound) (linkOf s (getD os k 0) .from) (rw (held-at (h .links) fs ts ls xs (getD os k 0) o) (from-in kept o)),
+                )),
+          )

@@ -1,0 +1,6 @@
+pub mod Counts
+pub mod Status
+pub mod Storing
+pub mod Beginning
+pub mod Delivering
+pub mod Running

@@ -1,0 +1,111 @@
+-- The state of a round in slices: what was delivered, how many neighbours each node has still to hear, the tally.
+use Prim.Native.Nat.{ℕ, _+_, _-_, _*_, _%_, _≤_, _<_}
+use mathlib.Core.Path.{_≡_}
+use mathlib.Core.Bool.{Bool, true, false, cond, _&&_}
+use mathlib.Core.List.{List}
+use lib.ListN.{length, getD, set}
+use lib.Dec.{ltb, eqb}
+use Rattle.rules.specs.Lists.{bit, counted, below, howMany}
+use Rattle.rules.specs.Desk.{heard}
+use Rattle.rules.specs.Messages.{waitsOn, delivered, finished}
+use Rattle.desk.specs.Ways.{toldOf}
+use Rattle.sheet.specs.declared.SheetHeld.{SheetHeld}
+use Rattle.sheet.specs.Held.{sheetSaid}
+use Rattle.node.specs.Net.{stateSaid, Graph}
+use Rattle.messages.specs.declared.Tally.{Tally}
+
+-- the numbers of node i's links
+abbrev pub rowNumbers : List ℕ → ℕ → List ℕ
+rowNumbers ss i = counted (getD ss i 0) (getD ss (i + 1) 0 - getD ss i 0)
+
+-- the far node of link p is still silent; and the link flows
+abbrev pub isSilent : List ℕ → ℕ → Bool
+isSilent inbox p = eqb (getD inbox p 0) 0
+
+abbrev pub isSilentFlow : List ℕ → List ℕ → ℕ → Bool
+isSilentFlow xs inbox p = ltb 0 (getD xs p 0) && isSilent inbox p
+
+-- how many neighbours node i has still to hear, times 1,024, and how many of them it has a flowing link to
+abbrev pub quietOf : List ℕ → List ℕ → List ℕ → ℕ → ℕ
+quietOf ss xs inbox i = howMany (isSilent inbox) (rowNumbers ss i) * 1024 + howMany (isSilentFlow xs inbox) (rowNumbers ss i)
+
+-- the status that such a count gives
+abbrev pub statusBy : ℕ → ℕ
+statusBy q = cond (ltb q 1024) 2 (cond (eqb (q % 1024) 0) 1 0)
+
+-- whether a message waits on a link with fraction x that carried the word w, where its node has such a count
+abbrev pub waitsBy : ℕ → ℕ → ℕ → Bool
+waitsBy q x w = waitsOn (statusBy q) (record { from = 0; to = 0; load = 0; fraction = x }) (toldOf w)
+
+-- one neighbour fewer to hear, over a link with fraction x
+abbrev pub fewer : ℕ → ℕ → ℕ
+fewer q x = q - (1024 + bit (ltb 0 x))
+
+-- one delivery more, and one node finished more where it finishes
+abbrev pub stepOf : Tally → Bool → Tally
+stepOf t true = record { deliveries = t .deliveries + 1; finished = t .finished + 1 }
+stepOf t false = record { deliveries = t .deliveries + 1; finished = t .finished }
+
+-- the counts and the tally are right
+pub record Kept (h : SheetHeld) (tr fs ts ls xs ss os inbox qs : List ℕ) (t : Tally) : Type 0 where
+  pub graph : Graph h tr fs ts ls xs ss os
+  pub inbox-size : length inbox ≡ 512
+  pub beyond : (k : ℕ) → h .links ≤ k → getD inbox k 0 ≡ 0
+  pub quiet-size : length qs ≡ 64
+  pub quiet : (i : ℕ) → i < h .head .nodes → getD qs i 0 ≡ quietOf ss xs inbox i
+  pub deliveries : t .deliveries ≡ delivered (stateSaid (h .links) os inbox)
+  pub finished-right : t .finished ≡ finished (sheetSaid h tr fs ts ls xs) (stateSaid (h .links) os inbox)
+
+-- link j, its opposite's place and the nodes at its ends stand in the slices
+pub record LinkAt (j : ℕ) (fs xs os inbox qs : List ℕ) : Type 0 where
+  pub from-size : length fs ≡ 512
+  pub fraction-size : length xs ≡ 512
+  pub opposite-size : length os ≡ 512
+  pub inbox-size : length inbox ≡ 512
+  pub quiet-size : length qs ≡ 64
+  pub low : j < 512
+  pub place : getD os j 0 < 512
+  pub near : getD fs j 0 < 64
+  pub far : getD fs (getD os j 0) 0 < 64
+
+-- whether the message on link j waits, by the counts
+abbrev pub waitingAt : ℕ → List ℕ → List ℕ → List ℕ → List ℕ → List ℕ → Bool
+waitingAt j fs xs os inbox qs = waitsBy (getD qs (getD fs j 0) 0) (getD xs j 0) (getD inbox (getD os j 0) 0)
+
+-- the counts have room for a first word on link j, and the tally has for one delivery more
+pub record Room (j : ℕ) (fs xs os inbox qs : List ℕ) (t : Tally) : Type 0 where
+  pub counted : heard (toldOf (getD inbox (getD os j 0) 0)) ≡ false → 1024 + bit (ltb 0 (getD xs (getD os j 0) 0)) ≤ getD qs (getD fs (getD os j 0) 0) 0
+  pub deliveries : t .deliveries ≤ 512
+  pub finished : t .finished ≤ 64
+
+-- the word w is stored on link j and nothing else changes but the counts and the tally, in every state that the slices keep
+pub record Stored (j w : ℕ) (fs xs os inbox qs inbox' qs' : List ℕ) (t t' : Tally) : Type 0 where
+  pub said : {h : SheetHeld} {tr ts ls ss : List ℕ} → Kept h tr fs ts ls xs ss os inbox qs t → j < h .links
+      → stateSaid (h .links) os inbox' ≡ set (stateSaid (h .links) os inbox) j (toldOf w)
+  pub keeps : {h : SheetHeld} {tr ts ls ss : List ℕ} → Kept h tr fs ts ls xs ss os inbox qs t → j < h .links
+      → Kept h tr fs ts ls xs ss os inbox' qs' t'
+
+-- the row lengths of n nodes, and how many of each flow, as counts of neighbours to hear
+abbrev pub rowQuiet : List ℕ → List ℕ → ℕ → ℕ
+rowQuiet ss gs i = (getD ss (i + 1) 0 - getD ss i 0) * 1024 + (getD gs (i + 1) 0 - getD gs i 0)
+
+-- nothing was delivered
+pub record Empty (inbox : List ℕ) : Type 0 where
+  pub size : length inbox ≡ 512
+  pub silence : (k : ℕ) → getD inbox k 0 ≡ 0
+
+-- where the rows of n nodes and their flowing places begin, and room for their counts
+pub record RowsAt (n : ℕ) (ss gs qs : List ℕ) : Type 0 where
+  pub few : n ≤ 64
+  pub size : length qs ≡ 64
+  pub starts : length ss ≡ 65
+  pub flow-starts : length gs ≡ 65
+  pub rise : (i : ℕ) → i < n → getD ss i 0 ≤ getD ss (i + 1) 0
+  pub flow-rise : (i : ℕ) → i < n → getD gs i 0 ≤ getD gs (i + 1) 0
+
+-- the counts of n nodes that have heard nobody, and how many nodes have nobody to hear
+pub record Begun (n : ℕ) (ss gs qs : List ℕ) (t : Tally) : Type 0 where
+  pub size : length qs ≡ 64
+  pub counts : (i : ℕ) → i < n → getD qs i 0 ≡ rowQuiet ss gs i
+  pub none : t .deliveries ≡ 0
+  pub finished-right : t .finished ≡ howMany (λ i. eqb (statusBy (rowQuiet ss gs i)) 2) (below n)

@@ -1,0 +1,255 @@
+// The round as messages: the state in slices that the caller lends, the one delivery function, and a list of deliveries.
+use desk::Told;
+use numbers::Fraction;
+use numbers::Traffic;
+use sheet::SheetHeld;
+ghost use mathlib.Core.Path.{_≡_};
+ghost use Prim.Native.Nat.{_+_, _≤_, _<_};
+ghost use lib.Dec.{ltb, eqb};
+ghost use lib.ListN.{length, getD};
+ghost use Rattle.rules.specs.Lists.{bit};
+ghost use Rattle.messages.specs.State.{statusBy, waitsBy, fewer, stepOf, LinkAt, waitingAt, Room, Stored, rowQuiet, Empty, RowsAt, Begun};
+ghost use Rattle.messages.specs.Round.{Deliverable, Delivered, NetHeld, ListRun};
+
+// How many neighbours a node has still to hear, times 1,024, and how many of them it has a flowing link to.
+pub struct Quiet(pub u32);
+
+// Deliveries made, nodes finished.
+pub struct Tally {
+    pub deliveries: u16,
+    pub finished: u8,
+}
+
+pub fn status_of(q: Quiet) -> u8
+    ensures { λ r. ⌜ r ≡ statusBy (q .0) ⌝ }
+{
+    if q.0 < 1024 {
+        return 2;
+    }
+    if q.0 % 1024 == 0 {
+        return 1;
+    }
+    0
+}
+
+// Does a message wait, whose node has the counts q, on a link with fraction x that carried w?
+fn may_send(q: Quiet, x: Fraction, w: Told) -> bool
+    ensures { λ r. ⌜ r ≡ waitsBy (q .0) (x .0) (w .0) ⌝ }
+{
+    let stat = status_of(q);
+    let flows = 0 < x.0;
+    !desk::is_heard(w) & ((stat == 2) | (stat == 1) & !flows)
+}
+
+// Does the message on link j wait?
+pub fn is_waiting(
+    j: usize,
+    from: &[u8],
+    fraction: &[u32],
+    opposite: &[u16],
+    inbox: &[u32],
+    quiet: &[u32],
+) -> bool
+    requires { ⌜ LinkAt j (now from) (now fraction) (now opposite) (now inbox) (now quiet) ⌝ }
+    ensures { λ r. ⌜ r ≡ waitingAt j (now (from .entry)) (now (fraction .entry)) (now (opposite .entry)) (now (inbox .entry)) (now (quiet .entry)) ⌝ }
+{
+    let i = from[j] as usize;
+    let p = opposite[j] as usize;
+    may_send(Quiet(quiet[i]), Fraction(fraction[j]), Told(inbox[p]))
+}
+
+// One neighbour fewer to hear, over a link with fraction x.
+fn hear_one(q: Quiet, x: Fraction) -> Quiet
+    requires { ⌜ 1024 + bit (ltb 0 (x .0)) ≤ q .0 ⌝ }
+    ensures { λ r. ⌜ r .0 ≡ fewer (q .0) (x .0) ⌝ }
+{
+    if 0 < x.0 {
+        Quiet(q.0 - 1025)
+    } else {
+        Quiet(q.0 - 1024)
+    }
+}
+
+// One delivery more, and one node finished more where it finishes.
+fn stepped(t: Tally, finishes: bool) -> Tally
+    requires { ⌜ (t .deliveries ≤ 512) × (t .finished ≤ 64) ⌝ }
+    ensures { λ r. ⌜ r ≡ stepOf t finishes ⌝ }
+{
+    if finishes {
+        return Tally {
+            deliveries: t.deliveries + 1,
+            finished: t.finished + 1,
+        };
+    }
+    Tally {
+        deliveries: t.deliveries + 1,
+        finished: t.finished,
+    }
+}
+
+// Stores a word on link j, where its far node hears it. Only the first word on a link counts as a delivery.
+pub fn store(
+    j: usize,
+    w: Told,
+    t: Tally,
+    from: &[u8],
+    fraction: &[u32],
+    opposite: &[u16],
+    inbox: &mut [u32],
+    quiet: &mut [u32],
+) -> Tally
+    requires { ⌜ LinkAt j (now from) (now fraction) (now opposite) (now inbox) (now quiet) × Room j (now from) (now fraction) (now opposite) (now inbox) (now quiet) t × (0 < w .0) ⌝ }
+    ensures { λ r. ⌜ Stored j (w .0) (now (from .entry)) (now (fraction .entry)) (now (opposite .entry)) (now (inbox .entry)) (now (quiet .entry)) (now (inbox .exit)) (now (quiet .exit)) t r ⌝ }
+{
+    let p = opposite[j] as usize;
+    let before = Told(inbox[p]);
+    inbox[p] = w.0;
+    if desk::is_heard(before) {
+        return t;
+    }
+    let b = from[p] as usize;
+    let q = hear_one(Quiet(quiet[b]), Fraction(fraction[p]));
+    quiet[b] = q.0;
+    stepped(t, status_of(q) == 2)
+}
+
+fn wide(x: u16) -> u32
+    ensures { λ r. ⌜ (r ≡ x) × (r < 65536) ⌝ }
+{
+    x as u32
+}
+
+// Node i's counts while it has heard nobody.
+fn row_quiet(i: usize, starts: &[u16], flow_starts: &[u16]) -> Quiet
+    requires { ⌜ (i < 64) × (length (now starts) ≡ 65) × (length (now «flow_starts») ≡ 65) × (getD (now starts) i 0 ≤ getD (now starts) (i + 1) 0) × (getD (now «flow_starts») i 0 ≤ getD (now «flow_starts») (i + 1) 0) ⌝ }
+    ensures { λ r. ⌜ r .0 ≡ rowQuiet (now (starts .entry)) (now («flow_starts» .entry)) i ⌝ }
+{
+    let all = wide(starts[i + 1]) - wide(starts[i]);
+    let flowing = wide(flow_starts[i + 1]) - wide(flow_starts[i]);
+    Quiet(all * 1024 + flowing)
+}
+
+fn finished_bit(q: Quiet) -> u8
+    ensures { λ r. ⌜ (r ≡ bit (eqb (statusBy (q .0)) 2)) × (r ≤ 1) ⌝ }
+{
+    if status_of(q) == 2 { 1 } else { 0 }
+}
+
+// The counts where nothing was delivered. A node with no links has finished.
+pub fn begin(n: u8, starts: &[u16], flow_starts: &[u16], quiet: &mut [u32]) -> Tally
+    requires { ⌜ RowsAt n (now starts) (now «flow_starts») (now quiet) ⌝ }
+    ensures { λ r. ⌜ Begun n (now (starts .entry)) (now («flow_starts» .entry)) (now (quiet .exit)) r ⌝ }
+{
+    let count = n as usize;
+    let mut finished: u8 = 0;
+    let mut i: usize = 0;
+    while i < count {
+        let q = row_quiet(i, starts, flow_starts);
+        quiet[i] = q.0;
+        finished += finished_bit(q);
+        i += 1;
+    }
+    Tally {
+        deliveries: 0,
+        finished,
+    }
+}
+
+// The one delivery function: link j's node works its message out from its own records and what it has heard, and it is stored.
+pub fn deliver(
+    h: SheetHeld,
+    j: usize,
+    t: Tally,
+    traffic: &[u32],
+    from: &[u8],
+    starts: &[u16],
+    flow_starts: &[u16],
+    flow: &[u16],
+    line: &[u32],
+    fraction: &[u32],
+    opposite: &[u16],
+    inbox: &mut [u32],
+    quiet: &mut [u32],
+) -> Tally
+    requires { ⌜ Deliverable (h .head .step .0) j (now traffic) (now from) (now starts) (now «flow_starts») (now flow) (now line) (now fraction) (now opposite) (now inbox) (now quiet) t ⌝ }
+    ensures { λ r. ⌜ Delivered h j (now (traffic .entry)) (now (from .entry)) (now (starts .entry)) (now («flow_starts» .entry)) (now (flow .entry)) (now (line .entry)) (now (fraction .entry)) (now (opposite .entry)) (now (inbox .entry)) (now (quiet .entry)) (now (inbox .exit)) (now (quiet .exit)) t r ⌝ }
+{
+    let i = from[j];
+    let k = i as usize;
+    let m = node::message_of(
+        h.head.step,
+        Traffic(traffic[k]),
+        i,
+        starts,
+        flow_starts,
+        flow,
+        line,
+        fraction,
+        inbox,
+    );
+    store(
+        j,
+        desk::told_by(m),
+        t,
+        from,
+        fraction,
+        opposite,
+        inbox,
+        quiet,
+    )
+}
+
+// Stopped with a refusal's number and place, or the tally of the state that is left.
+pub enum Ran {
+    Stopped(u8, usize),
+    Left(Tally),
+}
+
+// The deliveries of a list, from the beginning: 12 before 10.
+pub fn run_list(
+    h: SheetHeld,
+    order: &[u16],
+    traffic: &[u32],
+    from: &[u8],
+    starts: &[u16],
+    flow_starts: &[u16],
+    flow: &[u16],
+    line: &[u32],
+    fraction: &[u32],
+    opposite: &[u16],
+    inbox: &mut [u32],
+    quiet: &mut [u32],
+) -> Ran
+    requires { ⌜ NetHeld h (now traffic) (now from) (now starts) (now «flow_starts») (now flow) (now line) (now fraction) (now opposite) × Empty (now inbox) × (length (now quiet) ≡ 64) ⌝ }
+    ensures { λ r. ⌜ ListRun r h (now (order .entry)) (now (traffic .entry)) (now (from .entry)) (now (starts .entry)) (now («flow_starts» .entry)) (now (flow .entry)) (now (line .entry)) (now (fraction .entry)) (now (opposite .entry)) (now (inbox .exit)) (now (quiet .exit)) ⌝ }
+{
+    let count = h.links;
+    let mut t = begin(h.head.nodes, starts, flow_starts, quiet);
+    let mut k: usize = 0;
+    while k < order.len() {
+        let j = order[k] as usize;
+        if count <= j {
+            return Ran::Stopped(12, k);
+        }
+        if !is_waiting(j, from, fraction, opposite, inbox, quiet) {
+            return Ran::Stopped(10, k);
+        }
+        t = deliver(
+            h,
+            j,
+            t,
+            traffic,
+            from,
+            starts,
+            flow_starts,
+            flow,
+            line,
+            fraction,
+            opposite,
+            inbox,
+            quiet,
+        );
+        k += 1;
+    }
+    Ran::Left(t)
+}

@@ -1,0 +1,13 @@
+use borrow.Author.Needs.{needs}
+use borrow.Author.Tests.{lt-ltb, le-ltb}
+use Rattle.network.proofs.flow_bit.Statement.{statement}
+use Rattle.network.proofs.flow_bit.Tie as tie
+
+returns : tie.Need-returns
+returns c = (rw (lt-ltb _ _ (c .if1 .taken)), search needs)
+
+returns-2 : tie.Need-returns-2
+returns-2 c = (rw (le-ltb _ _ (c .if1 .left)), search needs)
+
+pub flow-bit-spec : {M : Type 1} → statement M
+flow-bit-spec = tie.close (tie.spec returns returns-2)

@@ -1,0 +1,39 @@
+-- The links of a sheet by node: where each row stands, which of its places flow, and each link's opposite.
+use Prim.Native.Nat.{ℕ, _+_, _-_, _≤_, _<_}
+use mathlib.Core.Path.{_≡_}
+use mathlib.Core.List.{List}
+use lib.ListN.{length, getD, take, drop}
+use lib.Dec.{ltb}
+use Rattle.rules.specs.Lists.{keep, below}
+
+-- what stands from a up to e
+abbrev pub part : List ℕ → ℕ → ℕ → List ℕ
+part xs a e = take (e - a) (drop a xs)
+
+-- the places of a row that flow, rising
+abbrev pub flowing : List ℕ → List ℕ
+flowing xs = keep (λ p. ltb 0 (getD xs p 0)) (below (length xs))
+
+-- links sorted by from, which is below n
+pub record Sorted (n count : ℕ) (fs : List ℕ) : Type 0 where
+  pub low : (j : ℕ) → j < count → getD fs j 0 < n
+  pub rises : (j k : ℕ) → j ≤ k → k < count → getD fs j 0 ≤ getD fs k 0
+
+-- node i's row is the links from ss[i] up to ss[i+1]
+pub record Rows (n count : ℕ) (fs ss : List ℕ) : Type 0 where
+  pub rise : (i : ℕ) → i < n → getD ss i 0 ≤ getD ss (i + 1) 0
+  pub top : (i : ℕ) → i ≤ n → getD ss i 0 ≤ count
+  pub inside : (i k : ℕ) → i < n → getD ss i 0 ≤ k → k < getD ss (i + 1) 0 → getD fs k 0 ≡ i
+  pub found : (k : ℕ) → k < count → (getD ss (getD fs k 0) 0 ≤ k) × (k < getD ss (getD fs k 0 + 1) 0)
+
+-- the flowing places of node i's row, counted from the row's start, stand in ps from gs[i] up to gs[i+1]
+pub record Flow (n : ℕ) (ss xs gs ps : List ℕ) : Type 0 where
+  pub rise : (i : ℕ) → i < n → getD gs i 0 ≤ getD gs (i + 1) 0
+  pub top : (i : ℕ) → i ≤ n → getD gs i 0 ≤ 512
+  pub places : (i : ℕ) → i < n → part ps (getD gs i 0) (getD gs (i + 1) 0) ≡ flowing (part xs (getD ss i 0) (getD ss (i + 1) 0))
+
+-- the opposite of link j is link os[j]
+pub record Opposites (count : ℕ) (fs ts os : List ℕ) : Type 0 where
+  pub low : (j : ℕ) → j < count → getD os j 0 < count
+  pub from : (j : ℕ) → j < count → getD fs (getD os j 0) 0 ≡ getD ts j 0
+  pub to : (j : ℕ) → j < count → getD ts (getD os j 0) 0 ≡ getD fs j 0

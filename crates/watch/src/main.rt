@@ -1,0 +1,191 @@
+// Shows the round as messages: for each delivery of house order its link, then each node's status, delay and mark.
+use hjerringsel::Answer;
+use hjerringsel::Refusal;
+use libc::STDOUT_FILENO;
+ghost use Prim.Native.Nat.{_≤_};
+
+// Answering 0 past the end spares every reader a condition on the bytes.
+fn byte_at(s: &[u8], i: usize) -> u8 {
+    if i < s.len() {
+        return s[i];
+    }
+    0
+}
+
+// As `byte_at`, of the list.
+fn number_at(s: &[u16], i: usize) -> u16 {
+    if i < s.len() {
+        return s[i];
+    }
+    0
+}
+
+// A byte as a number to print.
+fn wide(x: u8) -> u64
+    ensures { λ r. ⌜ r ≤ 255 ⌝ }
+{
+    x as u64
+}
+
+// A byte as a count.
+fn whole(x: u8) -> usize
+    ensures { λ r. ⌜ r ≤ 255 ⌝ }
+{
+    x as usize
+}
+
+// A link's number as an index.
+fn index(x: u16) -> usize
+    ensures { λ r. ⌜ r ≤ 65535 ⌝ }
+{
+    x as usize
+}
+
+// A number of four bytes has the high byte first.
+fn joined(a: u8, b: u8, c: u8, d: u8) -> u64 {
+    wide(a) * 16777216 + wide(b) * 65536 + wide(c) * 256 + wide(d)
+}
+
+// A node's six bytes: status, mark, delay. `!` stands for the mark (blocked); a delay is shown only where there is one.
+fn print_node(frame: &[u8], i: usize)
+    requires { ⌜ i ≤ 255 ⌝ }
+{
+    let at = 6 * i;
+    io::write_all(STDOUT_FILENO, b"  ");
+    io::print_decimal(STDOUT_FILENO, i as u64);
+    io::write_all(STDOUT_FILENO, b": ");
+    io::print_decimal(STDOUT_FILENO, wide(byte_at(frame, at)));
+    if byte_at(frame, at) > 0 {
+        io::write_all(STDOUT_FILENO, b" ");
+        print_delay(frame, at);
+    }
+    if byte_at(frame, at + 1) > 0 {
+        io::write_all(STDOUT_FILENO, b"!");
+    }
+}
+
+// The delay is the last four bytes of the node that begins at `at`.
+fn print_delay(frame: &[u8], at: usize)
+    requires { ⌜ at ≤ 1530 ⌝ }
+{
+    let delay = joined(
+        byte_at(frame, at + 2),
+        byte_at(frame, at + 3),
+        byte_at(frame, at + 4),
+        byte_at(frame, at + 5),
+    );
+    io::print_decimal(STDOUT_FILENO, delay);
+}
+
+// Every node on one line.
+fn print_nodes(nodes: u8, frame: &[u8]) {
+    let count = whole(nodes);
+    let mut i = 0;
+    while i < count {
+        print_node(frame, i);
+        i += 1;
+    }
+    io::write_all(STDOUT_FILENO, b"\n");
+}
+
+// Link j stands behind the head, 7 bytes, the nodes, 6 bytes each, and j links of 8 bytes.
+fn print_link(sheet: &[u8], link: u16) {
+    let j = index(link);
+    let at = 7 + 6 * whole(byte_at(sheet, 1)) + 8 * j;
+    io::print_decimal(STDOUT_FILENO, j as u64);
+    io::write_all(STDOUT_FILENO, b" ");
+    io::print_decimal(STDOUT_FILENO, wide(byte_at(sheet, at + 1)));
+    io::write_all(STDOUT_FILENO, b">");
+    io::print_decimal(STDOUT_FILENO, wide(byte_at(sheet, at + 2)));
+}
+
+// The refusal's number in the table of document 01.
+fn number_of(r: Refusal) -> u64 {
+    match r {
+        Refusal::CutShort(_) => 1,
+        Refusal::WrongKind(_) => 2,
+        Refusal::OutOfRange(_) => 3,
+        Refusal::NotRising(_) => 4,
+        Refusal::BytesAfter(_) => 5,
+        Refusal::NoOpposite(_) => 6,
+        Refusal::WrongSum(_) => 7,
+        Refusal::OnLoop(_) => 8,
+        Refusal::TooShort(_) => 9,
+        Refusal::NotWaiting(_) => 10,
+        Refusal::ListEnds(_) => 11,
+        Refusal::NoSuchLink(_) => 12,
+    }
+}
+
+// The place that a refusal names.
+fn place_of(r: Refusal) -> u64 {
+    match r {
+        Refusal::CutShort(p) => p as u64,
+        Refusal::WrongKind(p) => p as u64,
+        Refusal::OutOfRange(p) => p as u64,
+        Refusal::NotRising(p) => p as u64,
+        Refusal::BytesAfter(p) => p as u64,
+        Refusal::NoOpposite(p) => p as u64,
+        Refusal::WrongSum(p) => p as u64,
+        Refusal::OnLoop(p) => p as u64,
+        Refusal::TooShort(p) => p as u64,
+        Refusal::NotWaiting(p) => p as u64,
+        Refusal::ListEnds(p) => p as u64,
+        Refusal::NoSuchLink(p) => p as u64,
+    }
+}
+
+// One line: the number and the place.
+fn print_refusal(r: Refusal) {
+    io::write_all(STDOUT_FILENO, b"refused ");
+    io::print_decimal(STDOUT_FILENO, number_of(r));
+    io::write_all(STDOUT_FILENO, b" at ");
+    io::print_decimal(STDOUT_FILENO, place_of(r));
+    io::write_all(STDOUT_FILENO, b"\n");
+}
+
+// The state that a list leaves, on the rest of the line. A frame has six bytes a node, of at most 64.
+fn print_state(sheet: &[u8], list: &[u16]) {
+    let mut frame = [0u8; 384];
+    let answer = hjerringsel::frame(sheet, list, &mut frame);
+    match answer {
+        Answer::Refused(r) => print_refusal(r),
+        Answer::Done(_) => print_nodes(byte_at(sheet, 1), &frame),
+    }
+}
+
+// The state after the first k deliveries; the bound is where the proof can see it.
+fn print_after(sheet: &[u8], list: &[u16], k: usize) {
+    if k <= list.len() {
+        print_state(sheet, &list[..k]);
+    }
+}
+
+// The state before any delivery, then each of the list's first `count` with the state after it.
+fn watch(sheet: &[u8], list: &[u16], count: usize) {
+    io::write_all(STDOUT_FILENO, b"start");
+    print_after(sheet, list, 0);
+    let mut k = 0;
+    while k < count {
+        print_link(sheet, number_at(list, k));
+        k += 1;
+        print_after(sheet, list, k);
+    }
+}
+
+// A function of its own, so that what is read keeps its length in the proof.
+fn take_house(sheet: &[u8]) {
+    let mut list = [0u16; 512];
+    let answer = hjerringsel::house(sheet, &mut list);
+    match answer {
+        Answer::Refused(r) => print_refusal(r),
+        Answer::Done(n) => watch(sheet, &list, n),
+    }
+}
+
+// The sheet is on standard input, at most 8,192 bytes.
+fn main() {
+    let mut sheet = [0u8; 8192];
+    let n = io::read_full(libc::STDIN_FILENO, &mut sheet);
+    take_house(&sheet[..n]);
+}
