@@ -23,9 +23,8 @@ use Rattle.play.specs.declared.Said.{Said}
 use Rattle.play.specs.Replies.{played, framed, saidOf, Replied}
 use Rattle.admit.specs.declared.Opened.{Opened}
 use Rattle.admit.specs.Opened.{openedSaid, OpenedGiven, Ready, readyIf}
-use Rattle.hjerringsel.specs.Answers.{Numbers, numberOf, placeOf, both, told, numbers, Answered, packed, Exported}
-use Rattle.hjerringsel.specs.declared.Refusal.{Refusal}
-use Rattle.hjerringsel.specs.declared.Answer.{Answer}
+use Rattle.answers.specs.Answers.{both, told, numbers, Answered, packed, Exported}
+use Rattle.answers.specs.declared.Answer.{Answer}
 
 module _ (b : List ℕ) {tr fs ts ls xs ss gs ps os ord turn : List ℕ} {r : Opened} (given : OpenedGiven r b tr fs ts ls xs ss gs ps os ord turn) where
   -- refused: the number is one of Check's, and any call gives it
@@ -102,13 +101,6 @@ module _ (b : List ℕ) {tr fs ts ls xs ss gs ps os ord turn : List ℕ} {r : Op
         (q ∙ ap (λ (k : ℕ). house s ++ drop k old) (sym (house-order s ok .1 ∙ z)))
 
 -- ---- as one number
-pub packed-done : {a : Answer} {n : ℕ} → a ≡ Answer.Done n → n % 4294967296 ≡ packed (told a)
-packed-done {a} {n} e = omega arith ∙ ap (λ (x : Answer). packed (told x)) (sym e)
-
-pub packed-refused : {a : Answer} {r : Refusal} {n p : ℕ} → a ≡ Answer.Refused r → n ≡ numberOf r → p ≡ placeOf r
-    → n * 4294967296 + p % 4294967296 ≡ packed (told a)
-packed-refused e x y = ap₂ (λ (n p : ℕ). n * 4294967296 + p % 4294967296) x y ∙ ap (λ (x : Answer). packed (told x)) (sym e)
-
 pub exported : {a : Answer} {r : ℕ} {reply : Reply} {old new : List ℕ} → r ≡ packed (told a) → Answered a reply old new → Exported r reply old new
 exported e w = record { says = e ∙ ap packed (w .says); writes = w .writes }
 

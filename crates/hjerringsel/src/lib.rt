@@ -1,5 +1,6 @@
 // The public calls. Each answers for every input, and writes nothing before all is decided.
 use admit::Opened;
+use answers::Answer;
 use play::Said;
 use sheet::SheetHeld;
 ghost use mathlib.Core.Path.{_≡_};
@@ -7,77 +8,8 @@ ghost use mathlib.Core.List.{List};
 ghost use Prim.Native.Nat.{ℕ, _≤_, _<_};
 ghost use lib.ListN.{length};
 ghost use Rattle.rules.specs.Calls.{checkReply, nextReply, playReply, frameReply, houseReply};
-ghost use Rattle.hjerringsel.specs.Answers.{numberOf, placeOf, both, told, numbers, Answered, packed, Exported};
+ghost use Rattle.answers.specs.Answers.{both, told, numbers, Answered, packed, Exported};
 ghost use Rattle.hjerringsel.specs.Written.{ReadyHeld, NextWritten};
-
-// A case for each number of document 01's table, with its place.
-pub enum Refusal {
-    CutShort(usize),
-    WrongKind(usize),
-    OutOfRange(usize),
-    NotRising(usize),
-    BytesAfter(usize),
-    NoOpposite(usize),
-    WrongSum(usize),
-    OnLoop(usize),
-    TooShort(usize),
-    NotWaiting(usize),
-    ListEnds(usize),
-    NoSuchLink(usize),
-}
-
-pub enum Answer {
-    Done(usize),
-    Refused(Refusal),
-}
-
-// The refusal with number n at place p.
-fn refusal_of(n: u8, p: usize) -> Refusal
-    requires { ⌜ (1 ≤ n) × (n ≤ 12) ⌝ }
-    ensures { λ r. ⌜ (numberOf r ≡ n) × (placeOf r ≡ p) ⌝ }
-{
-    if n <= 1 {
-        return Refusal::CutShort(p);
-    }
-    if n <= 2 {
-        return Refusal::WrongKind(p);
-    }
-    if n <= 3 {
-        return Refusal::OutOfRange(p);
-    }
-    if n <= 4 {
-        return Refusal::NotRising(p);
-    }
-    if n <= 5 {
-        return Refusal::BytesAfter(p);
-    }
-    if n <= 6 {
-        return Refusal::NoOpposite(p);
-    }
-    if n <= 7 {
-        return Refusal::WrongSum(p);
-    }
-    if n <= 8 {
-        return Refusal::OnLoop(p);
-    }
-    if n <= 9 {
-        return Refusal::TooShort(p);
-    }
-    if n <= 10 {
-        return Refusal::NotWaiting(p);
-    }
-    if n <= 11 {
-        return Refusal::ListEnds(p);
-    }
-    Refusal::NoSuchLink(p)
-}
-
-fn refused(n: u8, p: usize) -> Answer
-    requires { ⌜ (1 ≤ n) × (n ≤ 12) ⌝ }
-    ensures { λ r. ⌜ told r ≡ both n p ⌝ }
-{
-    Answer::Refused(refusal_of(n, p))
-}
 
 // Check a sheet: answers its number of links.
 pub fn check(sheet: &[u8]) -> Answer
@@ -109,7 +41,7 @@ pub fn check(sheet: &[u8]) -> Answer
         &mut turn,
     );
     match opened {
-        Opened::Refused(n, p) => refused(n, p),
+        Opened::Refused(n, p) => answers::refused(n, p),
         Opened::Accepted(h) => Answer::Done(h.links),
     }
 }
@@ -180,11 +112,11 @@ pub fn next(sheet: &[u8], out: &mut [u8]) -> Answer
         &mut turn,
     );
     match opened {
-        Opened::Refused(n, p) => refused(n, p),
+        Opened::Refused(n, p) => answers::refused(n, p),
         Opened::Accepted(h) => {
             let need = sheet.len();
             if out.len() < need {
-                return refused(9, need);
+                return answers::refused(9, need);
             }
             write_next(
                 sheet,
@@ -234,11 +166,11 @@ pub fn house(sheet: &[u8], out: &mut [u16]) -> Answer
         &mut turn,
     );
     match opened {
-        Opened::Refused(n, p) => refused(n, p),
+        Opened::Refused(n, p) => answers::refused(n, p),
         Opened::Accepted(h) => {
             let need = h.links;
             if out.len() < need {
-                return refused(9, need);
+                return answers::refused(9, need);
             }
             let mut inbox = [0u32; 512];
             let mut quiet = [0u32; 64];
@@ -266,7 +198,7 @@ fn answer_of(s: Said) -> Answer
     if s.number == 0 {
         return Answer::Done(s.value);
     }
-    refused(s.number, s.value)
+    answers::refused(s.number, s.value)
 }
 
 // Delivers the messages of the list in its order; writes the same as Next.
@@ -299,11 +231,11 @@ pub fn play(sheet: &[u8], list: &[u16], out: &mut [u8]) -> Answer
         &mut turn,
     );
     match opened {
-        Opened::Refused(n, p) => refused(n, p),
+        Opened::Refused(n, p) => answers::refused(n, p),
         Opened::Accepted(h) => {
             let need = sheet.len();
             if out.len() < need {
-                return refused(9, need);
+                return answers::refused(9, need);
             }
             let said = play::play_accepted(
                 sheet,
@@ -354,11 +286,11 @@ pub fn frame(sheet: &[u8], list: &[u16], out: &mut [u8]) -> Answer
         &mut turn,
     );
     match opened {
-        Opened::Refused(n, p) => refused(n, p),
+        Opened::Refused(n, p) => answers::refused(n, p),
         Opened::Accepted(h) => {
             let need = 6 * (h.head.nodes as usize);
             if out.len() < need {
-                return refused(9, need);
+                return answers::refused(9, need);
             }
             let said = play::frame_accepted(
                 list,
@@ -379,84 +311,37 @@ pub fn frame(sheet: &[u8], list: &[u16], out: &mut [u8]) -> Answer
 }
 
 // ---- The C interface: a slice is a pointer and a length, the answer is number × 2^32 + value.
-fn number_of(r: Refusal) -> u64
-    ensures { λ n. ⌜ (n ≡ numberOf r) × (n ≤ 12) ⌝ }
-{
-    match r {
-        Refusal::CutShort(_) => 1,
-        Refusal::WrongKind(_) => 2,
-        Refusal::OutOfRange(_) => 3,
-        Refusal::NotRising(_) => 4,
-        Refusal::BytesAfter(_) => 5,
-        Refusal::NoOpposite(_) => 6,
-        Refusal::WrongSum(_) => 7,
-        Refusal::OnLoop(_) => 8,
-        Refusal::TooShort(_) => 9,
-        Refusal::NotWaiting(_) => 10,
-        Refusal::ListEnds(_) => 11,
-        Refusal::NoSuchLink(_) => 12,
-    }
-}
-
-fn place_of(r: Refusal) -> u64
-    ensures { λ p. ⌜ p ≡ placeOf r ⌝ }
-{
-    match r {
-        Refusal::CutShort(p) => p as u64,
-        Refusal::WrongKind(p) => p as u64,
-        Refusal::OutOfRange(p) => p as u64,
-        Refusal::NotRising(p) => p as u64,
-        Refusal::BytesAfter(p) => p as u64,
-        Refusal::NoOpposite(p) => p as u64,
-        Refusal::WrongSum(p) => p as u64,
-        Refusal::OnLoop(p) => p as u64,
-        Refusal::TooShort(p) => p as u64,
-        Refusal::NotWaiting(p) => p as u64,
-        Refusal::ListEnds(p) => p as u64,
-        Refusal::NoSuchLink(p) => p as u64,
-    }
-}
-
-fn packed_of(a: Answer) -> u64
-    ensures { λ r. ⌜ r ≡ packed (told a) ⌝ }
-{
-    match a {
-        Answer::Done(n) => (n as u64) % 4294967296,
-        Answer::Refused(r) => number_of(r) * 4294967296 + place_of(r) % 4294967296,
-    }
-}
-
 #[no_mangle]
 pub extern "C" fn hjerringsel_check(sheet: &[u8]) -> u64
     ensures { λ r. ⌜ r ≡ packed (numbers (checkReply (now (sheet .entry)))) ⌝ }
 {
-    packed_of(check(sheet))
+    answers::packed_of(check(sheet))
 }
 
 #[no_mangle]
 pub extern "C" fn hjerringsel_next(sheet: &[u8], out: &mut [u8]) -> u64
     ensures { λ r. ⌜ Exported r (nextReply (now (sheet .entry)) (length (now (out .entry)))) (now (out .entry)) (now (out .exit)) ⌝ }
 {
-    packed_of(next(sheet, out))
+    answers::packed_of(next(sheet, out))
 }
 
 #[no_mangle]
 pub extern "C" fn hjerringsel_house(sheet: &[u8], out: &mut [u16]) -> u64
     ensures { λ r. ⌜ Exported r (houseReply (now (sheet .entry)) (length (now (out .entry)))) (now (out .entry)) (now (out .exit)) ⌝ }
 {
-    packed_of(house(sheet, out))
+    answers::packed_of(house(sheet, out))
 }
 
 #[no_mangle]
 pub extern "C" fn hjerringsel_play(sheet: &[u8], list: &[u16], out: &mut [u8]) -> u64
     ensures { λ r. ⌜ Exported r (playReply (now (sheet .entry)) (now (list .entry)) (length (now (out .entry)))) (now (out .entry)) (now (out .exit)) ⌝ }
 {
-    packed_of(play(sheet, list, out))
+    answers::packed_of(play(sheet, list, out))
 }
 
 #[no_mangle]
 pub extern "C" fn hjerringsel_frame(sheet: &[u8], list: &[u16], out: &mut [u8]) -> u64
     ensures { λ r. ⌜ Exported r (frameReply (now (sheet .entry)) (now (list .entry)) (length (now (out .entry)))) (now (out .entry)) (now (out .exit)) ⌝ }
 {
-    packed_of(frame(sheet, list, out))
+    answers::packed_of(frame(sheet, list, out))
 }

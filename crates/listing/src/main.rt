@@ -1,6 +1,6 @@
 // Prints what one round makes of the sheet on standard input: each link's fraction before and after.
-use hjerringsel::Answer;
-use hjerringsel::Refusal;
+use answers::Answer;
+use answers::Refusal;
 use libc::STDOUT_FILENO;
 ghost use Prim.Native.Nat.{_≤_};
 
@@ -85,45 +85,11 @@ fn print_links(before: &[u8], after: &[u8]) {
     }
 }
 
-fn number_of(r: Refusal) -> u64 {
-    match r {
-        Refusal::CutShort(_) => 1,
-        Refusal::WrongKind(_) => 2,
-        Refusal::OutOfRange(_) => 3,
-        Refusal::NotRising(_) => 4,
-        Refusal::BytesAfter(_) => 5,
-        Refusal::NoOpposite(_) => 6,
-        Refusal::WrongSum(_) => 7,
-        Refusal::OnLoop(_) => 8,
-        Refusal::TooShort(_) => 9,
-        Refusal::NotWaiting(_) => 10,
-        Refusal::ListEnds(_) => 11,
-        Refusal::NoSuchLink(_) => 12,
-    }
-}
-
-fn place_of(r: Refusal) -> u64 {
-    match r {
-        Refusal::CutShort(p) => p as u64,
-        Refusal::WrongKind(p) => p as u64,
-        Refusal::OutOfRange(p) => p as u64,
-        Refusal::NotRising(p) => p as u64,
-        Refusal::BytesAfter(p) => p as u64,
-        Refusal::NoOpposite(p) => p as u64,
-        Refusal::WrongSum(p) => p as u64,
-        Refusal::OnLoop(p) => p as u64,
-        Refusal::TooShort(p) => p as u64,
-        Refusal::NotWaiting(p) => p as u64,
-        Refusal::ListEnds(p) => p as u64,
-        Refusal::NoSuchLink(p) => p as u64,
-    }
-}
-
 fn print_refusal(r: Refusal) {
     io::write_all(STDOUT_FILENO, b"refused ");
-    io::print_decimal(STDOUT_FILENO, number_of(r));
+    io::print_decimal(STDOUT_FILENO, answers::number_of(r));
     io::write_all(STDOUT_FILENO, b" at ");
-    io::print_decimal(STDOUT_FILENO, place_of(r));
+    io::print_decimal(STDOUT_FILENO, answers::place_of(r));
     io::write_all(STDOUT_FILENO, b"\n");
 }
 

@@ -1,12 +1,12 @@
 use Prim.Native.Nat.{ℕ}
 use mathlib.Core.Path.{sym, ap}
-use Rattle.hjerringsel.specs.Answers.{both}
+use Rattle.answers.specs.Answers.{both}
 use borrow.Author.Needs.{needs}
 use Rattle.hjerringsel.proofs.answer_of.Statement.{statement}
 use Rattle.hjerringsel.proofs.answer_of.Tie as tie
 use Rattle.hjerringsel.proofs.answer_of.Reads as reads
 use Rattle.hjerringsel.proofs.answer_of.Lts as lts
-use Rattle.hjerringsel.proofs.refused.Reads as refused-reads
+use Rattle.answers.proofs.refused.Reads as refused-reads
 
 -- src/lib.rt:267:9
 returns : tie.Need-returns

@@ -3,7 +3,7 @@ use mathlib.Core.Path.{sym, ap, _∙_}
 use mathlib.Core.List.{[]}
 use lib.ListN.{length}
 use Rattle.rules.specs.Calls.{answer}
-use Rattle.hjerringsel.specs.Answers.{numbers}
+use Rattle.answers.specs.Answers.{numbers}
 use Rattle.hjerringsel.proofs.Replies.{refused-number, refused-reply, links-reply}
 use borrow.Author.Needs.{needs}
 use Rattle.hjerringsel.proofs.check.Statement.{statement}
@@ -11,7 +11,7 @@ use Rattle.hjerringsel.proofs.check.Tie as tie
 use Rattle.hjerringsel.proofs.check.Reads as reads
 use Rattle.hjerringsel.proofs.check.Lts as lts
 use Rattle.admit.proofs.open.Reads as open-reads
-use Rattle.hjerringsel.proofs.refused.Reads as refused-reads
+use Rattle.answers.proofs.refused.Reads as refused-reads
 
 -- src/lib.rt:78:9
 slice-aggregate-open : tie.Need-slice-aggregate-open

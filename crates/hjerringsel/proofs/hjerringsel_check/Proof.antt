@@ -1,12 +1,12 @@
 use mathlib.Core.Path.{ap, _∙_}
-use Rattle.hjerringsel.specs.Answers.{packed}
+use Rattle.answers.specs.Answers.{packed}
 use borrow.Author.Needs.{needs}
 use Rattle.hjerringsel.proofs.hjerringsel_check.Statement.{statement}
 use Rattle.hjerringsel.proofs.hjerringsel_check.Tie as tie
 use Rattle.hjerringsel.proofs.hjerringsel_check.Reads as reads
 use Rattle.hjerringsel.proofs.hjerringsel_check.Lts as lts
 use Rattle.hjerringsel.proofs.check.Reads as check-reads
-use Rattle.hjerringsel.proofs.packed_of.Reads as packed-of-reads
+use Rattle.answers.proofs.packed_of.Reads as packed-of-reads
 
 -- src/lib.rt:312:15
 check-requires : tie.Need-check-requires

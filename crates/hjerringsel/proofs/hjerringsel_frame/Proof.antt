@@ -5,7 +5,7 @@ use Rattle.hjerringsel.proofs.hjerringsel_frame.Tie as tie
 use Rattle.hjerringsel.proofs.hjerringsel_frame.Reads as reads
 use Rattle.hjerringsel.proofs.hjerringsel_frame.Lts as lts
 use Rattle.hjerringsel.proofs.frame.Reads as frame-reads
-use Rattle.hjerringsel.proofs.packed_of.Reads as packed-of-reads
+use Rattle.answers.proofs.packed_of.Reads as packed-of-reads
 
 -- src/lib.rt:461:15
 frame-requires : tie.Need-frame-requires

@@ -5,7 +5,7 @@ use Rattle.hjerringsel.proofs.hjerringsel_house.Tie as tie
 use Rattle.hjerringsel.proofs.hjerringsel_house.Reads as reads
 use Rattle.hjerringsel.proofs.hjerringsel_house.Lts as lts
 use Rattle.hjerringsel.proofs.house.Reads as house-reads
-use Rattle.hjerringsel.proofs.packed_of.Reads as packed-of-reads
+use Rattle.answers.proofs.packed_of.Reads as packed-of-reads
 
 -- src/lib.rt:326:15
 house-requires : tie.Need-house-requires

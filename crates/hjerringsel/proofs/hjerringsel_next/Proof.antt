@@ -5,7 +5,7 @@ use Rattle.hjerringsel.proofs.hjerringsel_next.Tie as tie
 use Rattle.hjerringsel.proofs.hjerringsel_next.Reads as reads
 use Rattle.hjerringsel.proofs.hjerringsel_next.Lts as lts
 use Rattle.hjerringsel.proofs.next.Reads as next-reads
-use Rattle.hjerringsel.proofs.packed_of.Reads as packed-of-reads
+use Rattle.answers.proofs.packed_of.Reads as packed-of-reads
 
 -- src/lib.rt:319:15
 next-requires : tie.Need-next-requires

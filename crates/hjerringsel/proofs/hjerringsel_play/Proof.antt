@@ -4,7 +4,7 @@ use Rattle.hjerringsel.proofs.hjerringsel_play.Statement.{statement}
 use Rattle.hjerringsel.proofs.hjerringsel_play.Tie as tie
 use Rattle.hjerringsel.proofs.hjerringsel_play.Reads as reads
 use Rattle.hjerringsel.proofs.hjerringsel_play.Lts as lts
-use Rattle.hjerringsel.proofs.packed_of.Reads as packed-of-reads
+use Rattle.answers.proofs.packed_of.Reads as packed-of-reads
 use Rattle.hjerringsel.proofs.play.Reads as play-reads
 
 -- src/lib.rt:454:15

@@ -9,7 +9,7 @@ use Rattle.hjerringsel.proofs.house.Tie as tie
 use Rattle.hjerringsel.proofs.house.Reads as reads
 use Rattle.hjerringsel.proofs.house.Lts as lts
 use Rattle.admit.proofs.open.Reads as open-reads
-use Rattle.hjerringsel.proofs.refused.Reads as refused-reads
+use Rattle.answers.proofs.refused.Reads as refused-reads
 use Rattle.house.proofs.write_house.Reads as write-house-reads
 
 -- src/lib.rt:223:9

@@ -8,7 +8,7 @@ use Rattle.hjerringsel.proofs.next.Tie as tie
 use Rattle.hjerringsel.proofs.next.Reads as reads
 use Rattle.hjerringsel.proofs.next.Lts as lts
 use Rattle.admit.proofs.open.Reads as open-reads
-use Rattle.hjerringsel.proofs.refused.Reads as refused-reads
+use Rattle.answers.proofs.refused.Reads as refused-reads
 use Rattle.hjerringsel.proofs.write_next.Reads as write-next-reads
 
 -- src/lib.rt:169:9

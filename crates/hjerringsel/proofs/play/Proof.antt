@@ -10,7 +10,7 @@ use Rattle.hjerringsel.proofs.play.Reads as reads
 use Rattle.hjerringsel.proofs.play.Lts as lts
 use Rattle.admit.proofs.open.Reads as open-reads
 use Rattle.hjerringsel.proofs.answer_of.Reads as answer-of-reads
-use Rattle.hjerringsel.proofs.refused.Reads as refused-reads
+use Rattle.answers.proofs.refused.Reads as refused-reads
 use Rattle.play.proofs.play_accepted.Reads as play-accepted-reads
 
 -- src/lib.rt:289:9

@@ -1,11 +1,11 @@
-use Rattle.hjerringsel.proofs.Replies.{packed-done, packed-refused}
+use Rattle.answers.proofs.Packed.{packed-done, packed-refused}
 use borrow.Author.Needs.{needs}
-use Rattle.hjerringsel.proofs.packed_of.Statement.{statement}
-use Rattle.hjerringsel.proofs.packed_of.Tie as tie
-use Rattle.hjerringsel.proofs.packed_of.Reads as reads
-use Rattle.hjerringsel.proofs.packed_of.Lts as lts
-use Rattle.hjerringsel.proofs.number_of.Reads as number-of-reads
-use Rattle.hjerringsel.proofs.place_of.Reads as place-of-reads
+use Rattle.answers.proofs.packed_of.Statement.{statement}
+use Rattle.answers.proofs.packed_of.Tie as tie
+use Rattle.answers.proofs.packed_of.Reads as reads
+use Rattle.answers.proofs.packed_of.Lts as lts
+use Rattle.answers.proofs.number_of.Reads as number-of-reads
+use Rattle.answers.proofs.place_of.Reads as place-of-reads
 
 -- src/lib.rt:303:22
 enum-known-a : tie.Need-enum-known-a

@@ -1,11 +1,11 @@
 use mathlib.Core.Path.{ap₂}
-use Rattle.hjerringsel.specs.Answers.{both}
+use Rattle.answers.specs.Answers.{both}
 use borrow.Author.Needs.{needs}
-use Rattle.hjerringsel.proofs.refused.Statement.{statement}
-use Rattle.hjerringsel.proofs.refused.Tie as tie
-use Rattle.hjerringsel.proofs.refused.Reads as reads
-use Rattle.hjerringsel.proofs.refused.Lts as lts
-use Rattle.hjerringsel.proofs.refusal_of.Reads as refusal-of-reads
+use Rattle.answers.proofs.refused.Statement.{statement}
+use Rattle.answers.proofs.refused.Tie as tie
+use Rattle.answers.proofs.refused.Reads as reads
+use Rattle.answers.proofs.refused.Lts as lts
+use Rattle.answers.proofs.refusal_of.Reads as refusal-of-reads
 
 -- src/lib.rt:58:21
 refusal-of-requires : tie.Need-refusal-of-requires

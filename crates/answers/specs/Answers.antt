@@ -3,10 +3,10 @@ use Prim.Native.Nat.{ℕ, _+_, _*_, _%_}
 use mathlib.Core.List.{List}
 use mathlib.Core.Path.{_≡_}
 use Rattle.rules.specs.Calls.{Reply, refusal, answer, over}
-use Rattle.hjerringsel.specs.declared.Refusal.{Refusal}
-use Rattle.hjerringsel.specs.declared.Refusal.the-variants.{CutShort, WrongKind, OutOfRange, NotRising, BytesAfter, NoOpposite, WrongSum, OnLoop, TooShort, NotWaiting, ListEnds, NoSuchLink}
-use Rattle.hjerringsel.specs.declared.Answer.{Answer}
-use Rattle.hjerringsel.specs.declared.Answer.the-variants.{Done, Refused}
+use Rattle.answers.specs.declared.Refusal.{Refusal}
+use Rattle.answers.specs.declared.Refusal.the-variants.{CutShort, WrongKind, OutOfRange, NotRising, BytesAfter, NoOpposite, WrongSum, OnLoop, TooShort, NotWaiting, ListEnds, NoSuchLink}
+use Rattle.answers.specs.declared.Answer.{Answer}
+use Rattle.answers.specs.declared.Answer.the-variants.{Done, Refused}
 
 -- the refusal's number
 abbrev pub numberOf : Refusal → ℕ
