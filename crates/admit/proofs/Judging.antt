@@ -76,6 +76,27 @@ module _ (h : SheetHeld) (tr fs ts ls xs : List ℕ) where
           → by-8 (foundSaid l) ≡ judge s
       at-8 e q ordered = ap by-8 (ordered .said (s .traffic) ls) ∙ ap (λ (x : Found). by-7 (foundSaid x)) (sym q) ∙ at-7 e
 
+-- what 8's judge asks for
+pub order-asked : (h : SheetHeld) {fs ts xs ss gs ps os ord turn : List ℕ} {w : Found} → Room ss gs ps os ord turn → Surveyed w (h .head) (h .links) fs xs ss gs ps
+    → JudgeAsked h fs ts xs → order.Graph (h .head) (h .links) ss gs ps fs ts xs ord turn
+order-asked h room surveyed asked = record {
+  links = record {
+    nodes = asked .few;
+    few = asked .many;
+    froms = asked .froms;
+    tos = asked .tos;
+    fractions = asked .fractions;
+    ends = λ j b. (asked .sorted .low j b, asked .to-in j b);
+  };
+  rows = surveyed .rows;
+  flow = surveyed .flow;
+  starts = room .starts;
+  flow-starts = room .flow-starts;
+  places = room .flow;
+  order = room .order;
+  turns = room .turns;
+}
+
 module _ (h : SheetHeld) {fs ts xs ss gs ps os ord turn : List ℕ} (room : Room ss gs ps os ord turn) {a : Found} (pairs : Paired a (h .links) fs ts os) where
   -- a link without its opposite
   pub judged-6 : {j : ℕ} → a ≡ Found.At j → Judged (Opened.Refused 6 j) h fs ts xs ss gs ps os ord turn
@@ -86,21 +107,6 @@ module _ (h : SheetHeld) {fs ts xs ss gs ps os ord turn : List ℕ} (room : Room
   }
 
   module _ {w : Found} (surveyed : Surveyed w (h .head) (h .links) fs xs ss gs ps) (e : a ≡ Found.Nowhere) where
-    pub order-asked : JudgeAsked h fs ts xs → order.Graph (h .head) (h .links) ss fs ts xs os ord turn
-    order-asked asked = record {
-      links = record {
-        nodes = asked .few;
-        few = asked .many;
-        froms = asked .froms;
-        tos = asked .tos;
-        fractions = asked .fractions;
-        ends = λ j b. (asked .sorted .low j b, asked .to-in j b);
-      };
-      rows = record { starts = room .starts; opposites = room .opposites; row = surveyed .rows .top; back = pairs .told (ap foundSaid e) .low };
-      order = room .order;
-      turns = room .turns;
-    }
-
     -- a row with a wrong sum
     pub judged-7 : {i : ℕ} → w ≡ Found.At i → Judged (Opened.Refused 7 i) h fs ts xs ss gs ps os ord turn
     judged-7 {i} q = record {

@@ -50,10 +50,11 @@ fn judge_whole(
         head,
         count,
         starts,
+        flow_starts,
+        flow,
         from,
         to,
         fraction,
-        opposite,
         order,
         turn,
     );

@@ -1,18 +1,17 @@
--- The test of an order, and the search for one: two nodes change places, and one more is taken.
+-- The search for an order: two nodes change places, and one more is taken.
 use Prim.Native.Nat.{ℕ, _+_, _≤_, _<_}
 use native.Mathlib.Omega.{arith}
 use native.Mathlib.Decide.{decLt, ℕ-discrete}
 use mathlib.Core.Path.{_≡_, refl, sym, ap, _∙_, subst}
-use mathlib.Core.Logic.{_⊎_, inl, inr}
-use mathlib.Core.Bool.{Bool, true, false, _&&_, _||_}
+use mathlib.Core.Bool.{Bool, true, false, _&&_}
 use mathlib.Core.List.{List}
 use lib.ListN.{length, getD, set, length-set}
 use lib.Seq.{getD-set-same, getD-set-other}
 use lib.Dec.{ltb, leb, eqb}
 use borrow.Author.Count.{below-more}
 use borrow.Author.Tests.{ltb-true, leb-true, eqb-true, lt-ltb, le-leb, eq-eqb}
-use Rattle.rules.proofs.Tests.{clash, and-gives, and-holds, or-gives}
-use Rattle.order.specs.Order.{Links, Inverse, Falling, Order}
+use Rattle.rules.proofs.Tests.{clash, and-gives, and-holds}
+use Rattle.order.specs.Order.{Links, Inverse, Order}
 use Rattle.order.specs.Inside.{BareBelow, BareTold, NotYet, NextBare, Swapped, Peeled, PeeledOut}
 
 -- the arrays have room for 64 nodes
@@ -25,19 +24,6 @@ links-wide w = record {
   fractions = w .fractions;
   ends = λ j q. let e = w .ends j q in (omega (arith, w .nodes), omega (arith, w .nodes));
 }
-
--- ---- the test of an order, link by link
-module _ (fs ts xs turn : List ℕ) where
-  pub falling-more : {good fall : Bool} (j : ℕ) → (good ≡ true → Falling j fs ts xs turn) → fall ≡ (eqb (getD xs j 0) 0 || ltb (getD turn (getD ts j 0) 0) (getD turn (getD fs j 0) 0))
-      → (good && fall) ≡ true → Falling (j + 1) fs ts xs turn
-  falling-more {good} {fall} j h e t =
-      let w = and-gives good fall t in
-      below-more (λ (k : ℕ). 0 < getD xs k 0 → getD turn (getD ts k 0) 0 < getD turn (getD fs k 0) 0) j (h (w .0))
-      (λ x. go x (or-gives (eqb (getD xs j 0) 0) (ltb (getD turn (getD ts j 0) 0) (getD turn (getD fs j 0) 0)) (sym e ∙ w .1)))
-    where
-      go : 0 < getD xs j 0 → (eqb (getD xs j 0) 0 ≡ true) ⊎ (ltb (getD turn (getD ts j 0) 0) (getD turn (getD fs j 0) 0) ≡ true) → getD turn (getD ts j 0) 0 < getD turn (getD fs j 0) 0
-      go x (inl z) = absurd (omega (arith, eqb-true (getD xs j 0) 0 z))
-      go x (inr l) = ltb-true (getD turn (getD ts j 0) 0) (getD turn (getD fs j 0) 0) l
 
 -- ---- can node i be taken?
 module _ (fs ts xs turn : List ℕ) (tail i j : ℕ) {r : Bool} (e : r ≡ (ltb 0 (getD xs j 0) && (eqb (getD fs j 0) i && leb tail (getD turn (getD ts j 0) 0)))) where

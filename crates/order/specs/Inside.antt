@@ -1,5 +1,5 @@
--- What the functions inside tell one another: nodes that are taken one by one, and marks that spread.
-use Prim.Native.Nat.{ℕ, _≤_, _<_}
+-- What the functions inside tell one another: rows by their flowing places, nodes that are taken one by one, and marks that spread.
+use Prim.Native.Nat.{ℕ, _+_, _≤_, _<_}
 use mathlib.Core.Path.{_≡_}
 use mathlib.Core.Bool.{Bool, true, false, _||_}
 use mathlib.Core.List.{List}
@@ -8,7 +8,46 @@ use lib.Dec.{eqb}
 use Rattle.rules.specs.Lists.{howMany}
 use Rattle.rules.specs.Loop.{Leads, marked}
 use Rattle.sheet.specs.Held.{held}
+use Rattle.network.specs.Rows.{part}
 use Rattle.order.specs.Order.{Inverse}
+
+-- ---- rows by their flowing places
+-- the flowing places of a row are places of it, and its links lead to nodes
+pub record RowFlow (ps ts : List ℕ) : Type 0 where
+  pub inside : (m : ℕ) → m < length ps → getD ps m 0 < length ts
+  pub far : (p : ℕ) → p < length ts → getD ts p 0 < 64
+
+-- node i's row, and its part of the flow
+pub record RowAt (ss gs ps ts : List ℕ) (i : ℕ) : Type 0 where
+  pub rise : getD ss i 0 ≤ getD ss (i + 1) 0
+  pub top : getD ss (i + 1) 0 ≤ 512
+  pub flow-rise : getD gs i 0 ≤ getD gs (i + 1) 0
+  pub flow-top : getD gs (i + 1) 0 ≤ 512
+  pub row : RowFlow (part ps (getD gs i 0) (getD gs (i + 1) 0)) (part ts (getD ss i 0) (getD ss (i + 1) 0))
+
+-- the rows of n nodes
+pub record Rowed (n : ℕ) (ss gs ps ts : List ℕ) : Type 0 where
+  pub nodes : n ≤ 64
+  pub starts : length ss ≡ 65
+  pub flow-starts : length gs ≡ 65
+  pub flow : length ps ≡ 512
+  pub tos : length ts ≡ 512
+  pub each : (i : ℕ) → i < n → RowAt ss gs ps ts i
+
+-- the first k flowing places of a row lead to nodes before this turn
+abbrev pub RowFalls : ℕ → ℕ → List ℕ → List ℕ → List ℕ → Type 0
+RowFalls near k ps ts turn = (m : ℕ) → m < k → getD turn (getD ts (getD ps m 0) 0) 0 < near
+
+-- those of the first n rows lead to nodes before the row's own
+abbrev pub RowsFall : ℕ → List ℕ → List ℕ → List ℕ → List ℕ → List ℕ → Type 0
+RowsFall n ss gs ps ts turn =
+    (i : ℕ) → i < n
+    → RowFalls (getD turn i 0) (length (part ps (getD gs i 0) (getD gs (i + 1) 0))) (part ps (getD gs i 0) (getD gs (i + 1) 0)) (part ts (getD ss i 0) (getD ss (i + 1) 0)) turn
+
+pub record Tested (n : ℕ) (ss gs ps ts ord turn : List ℕ) : Type 0 where
+  pub node : Inverse n ord turn
+  pub turn-of : Inverse n turn ord
+  pub falls : RowsFall n ss gs ps ts turn
 
 -- ---- an order so far: the nodes in the first `tail` turns are taken
 pub record Peeled (n count : ℕ) (fs ts xs ord turn : List ℕ) (tail : ℕ) : Type 0 where

@@ -10,6 +10,7 @@ use Rattle.rules.specs.Check.{sheetWith}
 use Rattle.sheet.specs.Held.{headSaid, held, foundSaid}
 use Rattle.sheet.specs.declared.HeadHeld.{HeadHeld}
 use Rattle.sheet.specs.declared.Found.{Found}
+use Rattle.network.specs.Rows.{Rows, Flow}
 
 -- `count` links stand in the slices, between n nodes
 pub record Links (n count : ℕ) (fs ts xs : List ℕ) : Type 0 where
@@ -20,17 +21,14 @@ pub record Links (n count : ℕ) (fs ts xs : List ℕ) : Type 0 where
   pub fractions : length xs ≡ 512
   pub ends : (j : ℕ) → j < count → (getD fs j 0 < n) × (getD ts j 0 < n)
 
--- rows and opposites lie among the links
-pub record Rows (n count : ℕ) (ss os : List ℕ) : Type 0 where
-  pub starts : length ss ≡ 65
-  pub opposites : length os ≡ 512
-  pub row : (i : ℕ) → i ≤ n → getD ss i 0 ≤ count
-  pub back : (j : ℕ) → j < count → getD os j 0 < count
-
--- what the caller lends
-pub record Graph (h : HeadHeld) (count : ℕ) (ss fs ts xs os ord turn : List ℕ) : Type 0 where
+-- what the caller lends: with the links their rows, and the places of a row that flow
+pub record Graph (h : HeadHeld) (count : ℕ) (ss gs ps fs ts xs ord turn : List ℕ) : Type 0 where
   pub links : Links (h .nodes) count fs ts xs
-  pub rows : Rows (h .nodes) count ss os
+  pub rows : Rows (h .nodes) count fs ss
+  pub flow : Flow (h .nodes) ss xs gs ps
+  pub starts : length ss ≡ 65
+  pub flow-starts : length gs ≡ 65
+  pub places : length ps ≡ 512
   pub order : length ord ≡ 64
   pub turns : length turn ≡ 64
 

@@ -11,122 +11,100 @@ ghost use lib.Dec.{ltb, leb, eqb};
 ghost use Rattle.rules.specs.Lists.{below, first};
 ghost use Rattle.rules.specs.Loop.{onLoop};
 ghost use Rattle.sheet.specs.Held.{foundSaid};
-ghost use Rattle.order.specs.Order.{Links, Rows, Graph, Inverse, Falling, Order, sheetOf, OrderGiven};
-ghost use Rattle.order.specs.Inside.{BareTold, NextBare, Swapped, PeeledOut, Spread};
+ghost use Rattle.order.specs.Order.{Links, Graph, Inverse, sheetOf, OrderGiven};
+ghost use Rattle.order.specs.Inside.{RowFlow, Rowed, RowFalls, RowsFall, Tested, BareTold, NextBare, Swapped, PeeledOut, Spread};
 
 // ---- A guess. Nothing is promised of it: it is tested.
 
-// 1 for yes: a sum of such needs no branch.
-fn one_if(b: bool) -> usize
-    ensures { λ r. ⌜ r ≤ 1 ⌝ }
+// The nodes that a row's flowing places lead to, a bit for each.
+fn far_nodes(flow: &[u16], to: &[u8]) -> u64
+    requires { ⌜ RowFlow (now flow) (now to) ⌝ }
 {
-    if b { 1 } else { 0 }
-}
-
-// Notes at each node how many links flow up to and with its last one. The links lie in rows, so nothing is read back.
-fn count_flowing(count: usize, from: &[u8], fraction: &[u32], flowing: &mut [u16])
-    requires { ⌜ (count ≤ 512) × (length (now from) ≡ 512) × ((j : ℕ) → j < count → getD (now from) j 0 < 64) × (length (now fraction) ≡ 512) × (length (now flowing) ≡ 64) ⌝ }
-{
-    let mut sum: usize = 0;
-    let mut j: usize = 0;
-    while j < count {
-        sum += one_if(0 < fraction[j]);
-        flowing[from[j] as usize] = sum as u16;
-        j += 1;
+    let mut far: u64 = 0;
+    let mut m: usize = 0;
+    while m < flow.len() {
+        let p = flow[m] as usize;
+        far = far | (1u64 << (to[p] as u32));
+        m += 1;
     }
+    far
 }
 
-// Makes of that for how many links each node waits, and queues those that wait for none; answers how many these are.
-fn begin(n: usize, order: &mut [u8], waiting: &mut [u16]) -> usize
-    requires { ⌜ (n ≤ 64) × (length (now order) ≡ 64) × (length (now waiting) ≡ 64) ⌝ }
-    ensures { λ r. ⌜ r ≤ n ⌝ }
+// Writes them for each node; and in place 64 all nodes, as if one more node had a link to each.
+fn gather(n: usize, starts: &[u16], flow_starts: &[u16], flow: &[u16], to: &[u8], far: &mut [u64])
+    requires { ⌜ Rowed n (now starts) (now «flow_starts») (now flow) (now to) × (length (now far) ≡ 65) ⌝ }
 {
-    let mut before: u16 = 0;
-    let mut tail: usize = 0;
+    let mut all: u64 = 0;
     let mut i: usize = 0;
     while i < n {
-        let flowing = waiting[i];
-        let own = std::num::wrapping_sub_u16(flowing, before);
-        waiting[i] = own;
-        before = flowing;
-        order[tail] = i as u8;
-        tail += one_if(own == 0);
+        let a = starts[i] as usize;
+        let e = starts[i + 1] as usize;
+        let f = flow_starts[i] as usize;
+        let g = flow_starts[i + 1] as usize;
+        far[i] = far_nodes(&flow[f..g], &to[a..e]);
+        all = all | (1u64 << (i as u32));
         i += 1;
     }
-    tail
+    far[64] = all;
 }
 
-// The node of this row is taken: those that send to it wait for a link less, and are queued once they wait for none.
-fn release(
-    start: usize,
-    end: usize,
-    n: usize,
-    to: &[u8],
-    fraction: &[u32],
-    opposite: &[u16],
-    queued: usize,
-    order: &mut [u8],
-    waiting: &mut [u16],
-) -> usize
-    requires { ⌜ (n ≤ 64) × (end ≤ 512) × (queued ≤ n) × (length (now to) ≡ 512) × (length (now fraction) ≡ 512) × (length (now opposite) ≡ 512) × ((j : ℕ) → j < end → (getD (now to) j 0 < n) × (getD (now opposite) j 0 < 512)) × (length (now order) ≡ 64) × (length (now waiting) ≡ 64) ⌝ }
-    ensures { λ r. ⌜ r ≤ n ⌝ }
+// The lowest node of a set.
+fn lowest(nodes: u64) -> usize
+    ensures { λ r. ⌜ r ≤ 64 ⌝ }
 {
-    let mut tail = queued;
-    let mut l = start;
-    while l < end {
-        if tail == n {
-            return tail;
-        }
-        let i = to[l];
-        let k = i as usize;
-        let m = opposite[l] as usize;
-        let flows = 0 < fraction[m];
-        let left = std::num::wrapping_sub_u16(waiting[k], flows as u16);
-        waiting[k] = left;
-        order[tail] = i;
-        tail += one_if((left == 0) & flows);
-        l += 1;
-    }
-    tail
+    u64::trailing_zeros(nodes) as usize
 }
 
-// Takes the nodes from the queue, which is the order, and notes each one's turn (Kahn).
+// Walks from node 64 to nodes that were not met yet, and back where none is ahead; a node is noted as it is left.
+// So the nodes that its links lead to are noted before it. There are two steps for each node: to it, and back.
+fn descend(n: usize, far: &[u64], order: &mut [u8], turn: &mut [u8])
+    requires { ⌜ (n ≤ 64) × (length (now far) ≡ 65) × (length (now order) ≡ 64) × (length (now turn) ≡ 64) ⌝ }
+{
+    let mut path = [0u8; 128];
+    let mut deep: usize = 0;
+    let mut b: usize = 64;
+    let mut unmet: u64 = 0xFFFF_FFFF_FFFF_FFFF;
+    let mut done: usize = 0;
+    let mut step: usize = 0;
+    while step < 2 * n {
+        let ahead = far[b] & unmet;
+        if ahead == 0 {
+            // Neither is ever so: two tests that are foretold cost less than the proof of it.
+            if n <= b {
+                return;
+            }
+            if deep == 0 {
+                return;
+            }
+            order[done] = b as u8;
+            turn[b] = done as u8;
+            done += 1;
+            deep -= 1;
+            b = path[deep] as usize;
+        } else {
+            path[deep] = b as u8;
+            deep += 1;
+            b = lowest(ahead);
+            unmet = unmet ^ (ahead ^ (ahead & (ahead - 1)));
+        }
+        step += 1;
+    }
+}
+
 fn guess(
     n: usize,
-    count: usize,
     starts: &[u16],
-    from: &[u8],
+    flow_starts: &[u16],
+    flow: &[u16],
     to: &[u8],
-    fraction: &[u32],
-    opposite: &[u16],
     order: &mut [u8],
     turn: &mut [u8],
 )
-    requires { ⌜ Links n count (now from) (now to) (now fraction) × Rows n count (now starts) (now opposite) × (length (now order) ≡ 64) × (length (now turn) ≡ 64) ⌝ }
+    requires { ⌜ Rowed n (now starts) (now «flow_starts») (now flow) (now to) × (length (now order) ≡ 64) × (length (now turn) ≡ 64) ⌝ }
 {
-    let mut waiting = [0u16; 64];
-    count_flowing(count, from, fraction, &mut waiting);
-    let mut tail = begin(n, order, &mut waiting);
-    let mut head: usize = 0;
-    while head < tail {
-        let b = order[head] as usize;
-        if n <= b {
-            return;
-        }
-        turn[b] = head as u8;
-        tail = release(
-            starts[b] as usize,
-            starts[b + 1] as usize,
-            n,
-            to,
-            fraction,
-            opposite,
-            tail,
-            order,
-            &mut waiting,
-        );
-        head += 1;
-    }
+    let mut far = [0u64; 65];
+    gather(n, starts, flow_starts, flow, to, &mut far);
+    descend(n, &far, order, turn);
 }
 
 // ---- The test of an order.
@@ -150,40 +128,58 @@ fn is_inverse(n: usize, places: &[u8], names: &[u8]) -> bool
     true
 }
 
-// Does a link, if it flows, lead to an earlier node?
-fn falls(fraction: u32, near: u8, far: u8) -> bool
-    ensures { λ r. ⌜ r ≡ (eqb fraction 0 || ltb far near) ⌝ }
-{
-    (fraction == 0) | (far < near)
-}
-
-// Do all links? There is no branch on what a link is: it could not be foreseen.
-fn all_fall(count: usize, from: &[u8], to: &[u8], fraction: &[u32], turn: &[u8]) -> bool
-    requires { ⌜ Links 64 count (now from) (now to) (now fraction) × (length (now turn) ≡ 64) ⌝ }
-    ensures { λ r. ⌜ (r ≡ true → Falling count (now (from .entry)) (now (to .entry)) (now (fraction .entry)) (now (turn .entry))) ⌝ }
+// Do a row's flowing places all lead to nodes before this turn? There is no branch on the turns: they could not be foreseen.
+fn row_falls(near: u8, flow: &[u16], to: &[u8], turn: &[u8]) -> bool
+    requires { ⌜ RowFlow (now flow) (now to) × (length (now turn) ≡ 64) ⌝ }
+    ensures { λ r. ⌜ (r ≡ true → RowFalls near (length (now (flow .entry))) (now (flow .entry)) (now (to .entry)) (now (turn .entry))) ⌝ }
 {
     let mut good = true;
-    let mut j: usize = 0;
-    while j < count {
-        let near = turn[from[j] as usize];
-        let far = turn[to[j] as usize];
-        good = good & falls(fraction[j], near, far);
-        j += 1;
+    let mut m: usize = 0;
+    while m < flow.len() {
+        let p = flow[m] as usize;
+        let far = turn[to[p] as usize];
+        good = good & (far < near);
+        m += 1;
+    }
+    good
+}
+
+// Do those of all rows lead to nodes before the row's own?
+fn all_fall(
+    n: usize,
+    starts: &[u16],
+    flow_starts: &[u16],
+    flow: &[u16],
+    to: &[u8],
+    turn: &[u8],
+) -> bool
+    requires { ⌜ Rowed n (now starts) (now «flow_starts») (now flow) (now to) × (length (now turn) ≡ 64) ⌝ }
+    ensures { λ r. ⌜ (r ≡ true → RowsFall n (now (starts .entry)) (now («flow_starts» .entry)) (now (flow .entry)) (now (to .entry)) (now (turn .entry))) ⌝ }
+{
+    let mut good = true;
+    let mut i: usize = 0;
+    while i < n {
+        let a = starts[i] as usize;
+        let e = starts[i + 1] as usize;
+        let f = flow_starts[i] as usize;
+        let g = flow_starts[i + 1] as usize;
+        good = good & row_falls(turn[i], &flow[f..g], &to[a..e], turn);
+        i += 1;
     }
     good
 }
 
 fn is_order(
     n: usize,
-    count: usize,
-    from: &[u8],
+    starts: &[u16],
+    flow_starts: &[u16],
+    flow: &[u16],
     to: &[u8],
-    fraction: &[u32],
     order: &[u8],
     turn: &[u8],
 ) -> bool
-    requires { ⌜ Links n count (now from) (now to) (now fraction) × (length (now order) ≡ 64) × (length (now turn) ≡ 64) ⌝ }
-    ensures { λ r. ⌜ (r ≡ true → Order n count (now (from .entry)) (now (to .entry)) (now (fraction .entry)) (now (order .entry)) (now (turn .entry))) ⌝ }
+    requires { ⌜ Rowed n (now starts) (now «flow_starts») (now flow) (now to) × (length (now order) ≡ 64) × (length (now turn) ≡ 64) ⌝ }
+    ensures { λ r. ⌜ (r ≡ true → Tested n (now (starts .entry)) (now («flow_starts» .entry)) (now (flow .entry)) (now (to .entry)) (now (order .entry)) (now (turn .entry))) ⌝ }
 {
     if !is_inverse(n, order, turn) {
         return false;
@@ -191,7 +187,7 @@ fn is_order(
     if !is_inverse(n, turn, order) {
         return false;
     }
-    all_fall(count, from, to, fraction, turn)
+    all_fall(n, starts, flow_starts, flow, to, turn)
 }
 
 // ---- An exact order: the nodes stand in some order throughout, and those in the first places are taken.
@@ -365,19 +361,20 @@ pub fn find_order(
     h: HeadHeld,
     count: usize,
     starts: &[u16],
+    flow_starts: &[u16],
+    flow: &[u16],
     from: &[u8],
     to: &[u8],
     fraction: &[u32],
-    opposite: &[u16],
     order: &mut [u8],
     turn: &mut [u8],
 ) -> Found
-    requires { ⌜ Graph h count (now starts) (now from) (now to) (now fraction) (now opposite) (now order) (now turn) ⌝ }
+    requires { ⌜ Graph h count (now starts) (now «flow_starts») (now flow) (now from) (now to) (now fraction) (now order) (now turn) ⌝ }
     ensures { λ r. ⌜ OrderGiven r h count (now (from .entry)) (now (to .entry)) (now (fraction .entry)) (now (order .exit)) (now (turn .exit)) ⌝ }
 {
     let n = h.nodes as usize;
-    guess(n, count, starts, from, to, fraction, opposite, order, turn);
-    if is_order(n, count, from, to, fraction, order, turn) {
+    guess(n, starts, flow_starts, flow, to, order, turn);
+    if is_order(n, starts, flow_starts, flow, to, order, turn) {
         return Found::Nowhere;
     }
     if peel(n, count, from, to, fraction, order, turn) == n {

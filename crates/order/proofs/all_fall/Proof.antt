@@ -4,59 +4,100 @@ use mathlib.Core.Path.{_≡_}
 use mathlib.Core.Bool.{true}
 use denote.Ref.{now}
 use borrow.Author.Needs.{needs}
-use Rattle.order.specs.Order.{Falling}
-use Rattle.order.proofs.Taking.{falling-more}
+use Rattle.order.specs.Inside.{RowsFall}
+use Rattle.order.proofs.Flowing.{rows-fall-more}
 use Rattle.order.proofs.all_fall.Statement.{statement}
 use Rattle.order.proofs.all_fall.Tie as tie
 
 abbrev Inv-loop : tie.InvT-loop
-Inv-loop count from to fraction turn good₀ j₀ good j = good ≡ true → Falling j from to fraction turn
+Inv-loop n starts flow-starts flow to turn good₀ i₀ good i = good ≡ true → RowsFall i starts flow-starts flow to turn
 
 abbrev μ-loop : tie.MeasureT-loop
-μ-loop count from to fraction turn good₀ j₀ good j = count - j
+μ-loop n starts flow-starts flow to turn good₀ i₀ good i = n - i
 
 loop-holds : tie.Need-loop-holds Inv-loop μ-loop
 loop-holds c = search needs
 
-shared-slice-read-near : tie.Need-shared-slice-read-near Inv-loop μ-loop
-shared-slice-read-near c = search needs
+mul-a : tie.Need-mul-a Inv-loop μ-loop
+mul-a c = search needs
 
-cast-near : tie.Need-cast-near Inv-loop μ-loop
-cast-near c = omega (arith, c .shared-slice-known5 .given (c .before .before .loop .j))
+shared-slice-read-a : tie.Need-shared-slice-read-a Inv-loop μ-loop
+shared-slice-read-a c = search needs
 
-shared-slice-read-near-2 : tie.Need-shared-slice-read-near-2 Inv-loop μ-loop
-shared-slice-read-near-2 c = omega (arith, c .before .before .before .before .before .before .before .before .pre .0 .ends (c .before .before .before .loop .j) (c .before .before .loop-test .taken) .0)
+cast-a : tie.Need-cast-a Inv-loop μ-loop
+cast-a c = let r = c .before .before .before .before .before .before .before .before .pre .0 .each (c .before .before .loop .i) (c .before .loop-test .taken) in search needs
 
-shared-slice-read-far : tie.Need-shared-slice-read-far Inv-loop μ-loop
-shared-slice-read-far c = search needs
+add-e : tie.Need-add-e Inv-loop μ-loop
+add-e c = search needs
 
-cast-far : tie.Need-cast-far Inv-loop μ-loop
-cast-far c = omega (arith, c .shared-slice-known7 .given (c .before .before .before .before .loop .j))
+mul-e : tie.Need-mul-e Inv-loop μ-loop
+mul-e c = search needs
 
-shared-slice-read-far-2 : tie.Need-shared-slice-read-far-2 Inv-loop μ-loop
-shared-slice-read-far-2 c = omega (arith, c .before .before .before .before .before .before .before .before .before .before .pre .0 .ends (c .before .before .before .before .before .loop .j) (c .before .before .before .before .loop-test .taken) .1)
+shared-slice-read-e : tie.Need-shared-slice-read-e Inv-loop μ-loop
+shared-slice-read-e c = search needs
 
-mul-falls : tie.Need-mul-falls Inv-loop μ-loop
-mul-falls c = search needs
+cast-e : tie.Need-cast-e Inv-loop μ-loop
+cast-e c = let r = c .before .before .before .before .before .before .before .before .before .pre .0 .each (c .before .before .before .loop .i) (c .before .before .loop-test .taken) in search needs
 
-shared-slice-read-falls : tie.Need-shared-slice-read-falls Inv-loop μ-loop
-shared-slice-read-falls c = search needs
+mul-f : tie.Need-mul-f Inv-loop μ-loop
+mul-f c = search needs
 
-falls-requires : tie.Need-falls-requires Inv-loop μ-loop
-falls-requires c κs = search needs
+shared-slice-read-f : tie.Need-shared-slice-read-f Inv-loop μ-loop
+shared-slice-read-f c = search needs
 
-add-j : tie.Need-add-j Inv-loop μ-loop
-add-j c = search needs
+cast-f : tie.Need-cast-f Inv-loop μ-loop
+cast-f c = let r = c .before .before .before .before .before .before .before .before .before .before .pre .0 .each (c .before .before .before .before .loop .i) (c .before .before .before .loop-test .taken) in search needs
+
+add-g : tie.Need-add-g Inv-loop μ-loop
+add-g c = search needs
+
+mul-g : tie.Need-mul-g Inv-loop μ-loop
+mul-g c = search needs
+
+shared-slice-read-g : tie.Need-shared-slice-read-g Inv-loop μ-loop
+shared-slice-read-g c = search needs
+
+cast-g : tie.Need-cast-g Inv-loop μ-loop
+cast-g c = let r = c .before .before .before .before .before .before .before .before .before .before .before .pre .0 .each (c .before .before .before .before .before .loop .i) (c .before .before .before .before .loop-test .taken) in search needs
+
+shared-slice-read-row-falls : tie.Need-shared-slice-read-row-falls Inv-loop μ-loop
+shared-slice-read-row-falls c = search needs
+
+mul-row-falls : tie.Need-mul-row-falls Inv-loop μ-loop
+mul-row-falls c = let r = c .before .before .before .before .before .before .before .before .before .before .before .before .pre .0 .each (c .before .before .before .before .before .before .loop .i) (c .before .before .before .before .before .loop-test .taken) in search needs
+
+sub-row-falls : tie.Need-sub-row-falls Inv-loop μ-loop
+sub-row-falls c = let r = c .before .before .before .before .before .before .before .before .before .before .before .before .pre .0 .each (c .before .before .before .before .before .before .loop .i) (c .before .before .before .before .before .loop-test .taken) in search needs
+
+part-row-falls-start : tie.Need-part-row-falls-start Inv-loop μ-loop
+part-row-falls-start c = let r = c .before .before .before .before .before .before .before .before .before .before .before .before .pre .0 .each (c .before .before .before .before .before .before .loop .i) (c .before .before .before .before .before .loop-test .taken) in search needs
+
+part-row-falls-end : tie.Need-part-row-falls-end Inv-loop μ-loop
+part-row-falls-end c = let r = c .before .before .before .before .before .before .before .before .before .before .before .before .pre .0 .each (c .before .before .before .before .before .before .loop .i) (c .before .before .before .before .before .loop-test .taken) in search needs
+
+sub-row-falls-2 : tie.Need-sub-row-falls-2 Inv-loop μ-loop
+sub-row-falls-2 c = let r = c .before .before .before .before .before .before .before .before .before .before .before .before .before .pre .0 .each (c .before .before .before .before .before .before .before .loop .i) (c .before .before .before .before .before .before .loop-test .taken) in search needs
+
+part-row-falls-start-2 : tie.Need-part-row-falls-start-2 Inv-loop μ-loop
+part-row-falls-start-2 c = let r = c .before .before .before .before .before .before .before .before .before .before .before .before .before .pre .0 .each (c .before .before .before .before .before .before .before .loop .i) (c .before .before .before .before .before .before .loop-test .taken) in search needs
+
+part-row-falls-end-2 : tie.Need-part-row-falls-end-2 Inv-loop μ-loop
+part-row-falls-end-2 c = let r = c .before .before .before .before .before .before .before .before .before .before .before .before .before .pre .0 .each (c .before .before .before .before .before .before .before .loop .i) (c .before .before .before .before .before .before .loop-test .taken) in search needs
+
+row-falls-requires : tie.Need-row-falls-requires Inv-loop μ-loop
+row-falls-requires c κs = (c .before .before .before .before .before .before .before .before .before .before .before .before .before .before .pre .0 .each (c .before .before .before .before .before .before .before .before .loop .i) (c .before .before .before .before .before .before .before .loop-test .taken) .row, search needs)
+
+add-i : tie.Need-add-i Inv-loop μ-loop
+add-i c = search needs
 
 loop-less : tie.Need-loop-less Inv-loop μ-loop
 loop-less c = search needs
 
 loop-again : tie.Need-loop-again Inv-loop μ-loop
-loop-again c = let a = c .before .before .before .before .before .before .before .before .before .before .before .before .args in
-    falling-more (now (a .from)) (now (a .to)) (now (a .fraction)) (now (a .turn)) (c .before .before .before .before .before .before .before .loop .j) (c .before .before .before .before .before .before .before .loop .inv) (c .falls .ensures)
+loop-again c = rows-fall-more (now (c .before .before .before .before .before .before .before .before .before .before .before .before .before .before .before .args .starts)) (now (c .before .before .before .before .before .before .before .before .before .before .before .before .before .before .before .args .flow-starts)) (now (c .before .before .before .before .before .before .before .before .before .before .before .before .before .before .before .args .flow)) (now (c .before .before .before .before .before .before .before .before .before .before .before .before .before .before .before .args .to)) (now (c .before .before .before .before .before .before .before .before .before .before .before .before .before .before .before .args .turn)) (c .before .before .before .before .before .before .before .before .before .loop .i) (c .before .before .before .before .before .before .before .before .before .loop .inv) (c .row-falls .ensures)
 
 returns : tie.Need-returns Inv-loop μ-loop
-returns c = λ e j q. c .before .loop .inv e j (omega arith)
+returns c = λ e i q. c .before .loop .inv e i (omega arith)
 
 pub all-fall-spec : {M : Type 1} → statement M
 all-fall-spec =
@@ -65,16 +106,30 @@ all-fall-spec =
     Inv-loop
     μ-loop
     loop-holds
-    shared-slice-read-near
-    cast-near
-    shared-slice-read-near-2
-    shared-slice-read-far
-    cast-far
-    shared-slice-read-far-2
-    mul-falls
-    shared-slice-read-falls
-    falls-requires
-    add-j
+    mul-a
+    shared-slice-read-a
+    cast-a
+    add-e
+    mul-e
+    shared-slice-read-e
+    cast-e
+    mul-f
+    shared-slice-read-f
+    cast-f
+    add-g
+    mul-g
+    shared-slice-read-g
+    cast-g
+    shared-slice-read-row-falls
+    mul-row-falls
+    sub-row-falls
+    part-row-falls-start
+    part-row-falls-end
+    sub-row-falls-2
+    part-row-falls-start-2
+    part-row-falls-end-2
+    row-falls-requires
+    add-i
     loop-less
     loop-again
     returns)

@@ -2,7 +2,6 @@ use mathlib.Core.Path.{refl}
 use borrow.Author.Tests.{not-false}
 use borrow.Author.Needs.{needs}
 use Rattle.rules.proofs.Tests.{clash}
-use Rattle.order.proofs.Taking.{links-wide}
 use Rattle.order.proofs.is_order.Statement.{statement}
 use Rattle.order.proofs.is_order.Tie as tie
 
@@ -19,13 +18,10 @@ returns-2 : tie.Need-returns-2
 returns-2 c = λ e. clash e refl
 
 all-fall-requires : tie.Need-all-fall-requires
-all-fall-requires c κs = (links-wide (c .before .before .before .before .before .before .before .before .before .pre .0), search needs)
+all-fall-requires c κs = search needs
 
 returns-3 : tie.Need-returns-3
-returns-3 c = λ e.
-    let there = c .before .before .before .before .is-inverse .ensures (not-false _ (c .before .before .before .if1 .left)) in
-    let back = c .before .before .is-inverse2 .ensures (not-false _ (c .before .if2 .left)) in
-    record { node = λ k q. there k q .0; turn-of = back; of-turn = λ k q. there k q .1; falls = c .all-fall .ensures e }
+returns-3 c = λ e. record { node = c .before .before .before .before .is-inverse .ensures (not-false _ (c .before .before .before .if1 .left)); turn-of = c .before .before .is-inverse2 .ensures (not-false _ (c .before .if2 .left)); falls = c .all-fall .ensures e }
 
 pub is-order-spec : {M : Type 1} → statement M
 is-order-spec =
