@@ -26,12 +26,12 @@ use Rattle.network.proofs.Rows.{held-length, rising-sorted}
 use Rattle.node.specs.Net.{stateSaid, Graph, Net}
 use Rattle.node.proofs.Held.{state-length, links-few}
 use Rattle.messages.specs.declared.Tally.{Tally}
-use Rattle.messages.specs.State.{waitingAt, Kept, LinkAt, Room, Stored, Empty, RowsAt, Begun}
+use Rattle.messages.specs.declared.Change.{Change}
+use Rattle.messages.specs.State.{waitingAt, stepOf, Kept, LinkAt, Counted, Stored, Empty, RowsAt, Begun}
 use Rattle.messages.proofs.Counts.{heard-set}
-use Rattle.messages.proofs.Storing.{from-in, waits-kept, link-at, room-kept}
+use Rattle.messages.proofs.Storing.{from-in, waits-kept, link-at, counted-kept}
 use Rattle.messages.proofs.Beginning.{rows-at, state-start, begun-kept}
 use Rattle.house.specs.declared.Spot.{Spot}
-use Rattle.house.specs.declared.Marked.{Marked}
 use Rattle.house.specs.House.{Passed, Searchable, LowestAt, Found, Amends, GraphHeld, HouseWritten}
 use Rattle.house.proofs.Digits.{every-live}
 
@@ -115,8 +115,8 @@ module _ {h : SheetHeld} {tr fs ts ls xs ss os : List ℕ} (graph : Graph h tr f
         before = λ p l. waits-here p (omega (arith, lowest .inside)) ∙ lowest .before p l;
       })
 
-      standing-more : {inbox' qs' : List ℕ} {t' : Tally} → k < h .links → k < length out → Stored j 1 fs xs os inbox qs inbox' qs' t t'
-          → Standing h tr fs ts ls ss xs os inbox' qs' (set out k j) t' (k + 1)
+      standing-more : {inbox' qs' : List ℕ} {c : Change} → k < h .links → k < length out → Stored j 1 fs xs os inbox qs inbox' qs' c
+          → Standing h tr fs ts ls ss xs os inbox' qs' (set out k j) (stepOf t c) (k + 1)
       standing-more low room put = record {
         kept = put .keeps (inv .kept) (lowest .inside);
         made = omega (
@@ -153,8 +153,8 @@ zeros zero m = refl
 zeros (suc n) zero = refl
 zeros (suc n) (suc m) = zeros n m
 
--- ---- for every such sheet
-pub record Choosing (h : SheetHeld) (fs ss xs os inbox qs cs out₀ out : List ℕ) (t : Tally) (live k : ℕ) : Type 0 where
+-- ---- for every such sheet, with the tally that the state would have
+pub record Choosing (h : SheetHeld) (fs ss xs os inbox qs cs out₀ out : List ℕ) (live k : ℕ) : Type 0 where
   pub within : k ≤ h .links
   pub few : h .links ≤ 512
   pub inbox-size : length inbox ≡ 512
@@ -162,14 +162,15 @@ pub record Choosing (h : SheetHeld) (fs ss xs os inbox qs cs out₀ out : List �
   pub out-size : length out ≡ length out₀
   pub behind : drop k out ≡ drop k out₀
   pub passed : Passed (h .links) live fs xs os inbox qs cs
-  pub each : {tr ts ls : List ℕ} → Graph h tr fs ts ls xs ss os → Standing h tr fs ts ls ss xs os inbox qs out t k
+  pub tally : Tally
+  pub each : {tr ts ls : List ℕ} → Graph h tr fs ts ls xs ss os → Standing h tr fs ts ls ss xs os inbox qs out tally k
 
 module _ {h : SheetHeld} {fs ss gs xs os : List ℕ} (held : GraphHeld h fs ss gs xs os) where
   pub choosing-rows : {qs : List ℕ} → length qs ≡ 64 → RowsAt (h .head .nodes) ss gs qs
   choosing-rows z = rows-at (graph-net (held .graph) (held .flow) (held .flow-start-size) (held .flow-size)) z
 
-  pub choosing-none : {inbox qs out : List ℕ} {t : Tally} → Empty inbox → Begun (h .head .nodes) ss gs qs t → Choosing h fs ss xs os inbox qs (replicate 64 0) out out t 18446744073709551615 0
-  choosing-none {inbox} empty begun = record {
+  pub choosing-none : {inbox qs out : List ℕ} {t : Tally} → Empty inbox → Begun (h .head .nodes) ss gs qs t → Choosing h fs ss xs os inbox qs (replicate 64 0) out out 18446744073709551615 0
+  choosing-none {inbox} {t = t} empty begun = record {
     within = omega arith;
     few = links-few (held .graph);
     inbox-size = empty .size;
@@ -177,14 +178,15 @@ module _ {h : SheetHeld} {fs ss gs xs os : List ℕ} (held : GraphHeld h fs ss g
     out-size = refl;
     behind = refl;
     passed = record { size = length-replicate {A = ℕ} 64 0; behind = λ p a b. absurd (omega (arith, zeros 64 (getD fs p 0))); shut = λ p a b. absurd (omega (arith, every-live (getD fs p 0) (from-low p a))) };
+    tally = t;
     each = λ graph. standing-none graph (held .flow) (held .flow-start-size) (held .flow-size) empty begun;
   }
     where
       from-low : (p : ℕ) → p < h .links → getD fs p 0 < 64
       from-low p a = omega (arith, held .graph .sound .few, from-in (standing-none (held .graph) {inbox = inbox} {out = []} (held .flow) (held .flow-start-size) (held .flow-size) empty begun .kept) a)
 
-  module _ {inbox qs cs out₀ out : List ℕ} {t : Tally} {live k : ℕ} (inv : Choosing h fs ss xs os inbox qs cs out₀ out t live k) where
-    abbrev now : Standing h (held .tr) fs (held .ts) (held .ls) ss xs os inbox qs out t k
+  module _ {inbox qs cs out₀ out : List ℕ} {live k : ℕ} (inv : Choosing h fs ss xs os inbox qs cs out₀ out live k) where
+    abbrev now : Standing h (held .tr) fs (held .ts) (held .ls) ss xs os inbox qs out (inv .tally) k
     now = inv .each (held .graph)
 
     pub choosing-search : k < h .links → Searchable h live fs ss xs os inbox qs cs
@@ -213,11 +215,11 @@ module _ {h : SheetHeld} {fs ss gs xs os : List ℕ} (held : GraphHeld h fs ss g
       pub choosing-link : LinkAt (r .link) fs xs os inbox qs
       choosing-link = link-at (now .kept) (found .lowest .inside)
 
-      pub choosing-room : Room (r .link) fs xs os inbox qs t
-      choosing-room = room-kept (now .kept) (found .lowest .inside)
+      pub choosing-counted : Counted (r .link) fs xs os inbox qs
+      choosing-counted = counted-kept (now .kept) (found .lowest .inside)
 
-      pub choosing-more : {inbox' qs' cs'' : List ℕ} {m : Marked} → k < h .links → h .links ≤ length out₀ → Amends (r .link) (r .live) fs xs os inbox qs cs' inbox' qs' cs'' t m
-          → Choosing h fs ss xs os inbox' qs' cs'' out₀ (set out k (r .link)) (m .tally) (m .live) (k + 1)
+      pub choosing-more : {inbox' qs' cs'' : List ℕ} {more : ℕ} → k < h .links → h .links ≤ length out₀ → Amends (r .link) (r .live) fs xs os inbox qs cs' inbox' qs' cs'' more
+          → Choosing h fs ss xs os inbox' qs' cs'' out₀ (set out k (r .link)) more (k + 1)
       choosing-more a b put =
           let kept = put .stored .keeps (now .kept) (found .lowest .inside) in
           record {
@@ -228,5 +230,6 @@ module _ {h : SheetHeld} {fs ss gs xs os : List ℕ} (held : GraphHeld h fs ss g
             out-size = length-set out k (r .link) ∙ inv .out-size;
             behind = drop-set-lt (k + 1) out k (r .link) (omega arith) ∙ sym (drop-drop 1 k out) ∙ ap (drop 1) (inv .behind) ∙ drop-drop 1 k out₀;
             passed = put .passed (now .kept) (found .lowest .inside) (found .passed);
+            tally = stepOf (inv .tally) (put .change);
             each = λ graph. standing-more graph (inv .each graph) (found .lowest) a (omega (arith, inv .out-size)) (put .stored);
           }

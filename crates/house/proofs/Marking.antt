@@ -19,6 +19,7 @@ use Rattle.network.proofs.Rows.{held-at}
 use Rattle.node.specs.Net.{stateSaid}
 use Rattle.node.proofs.Held.{state-length}
 use Rattle.messages.specs.declared.Tally.{Tally}
+use Rattle.messages.specs.declared.Change.{Change}
 use Rattle.messages.specs.State.{statusBy, waitingAt, Kept, Stored}
 use Rattle.messages.proofs.Storing.{status-kept, from-in, waits-kept}
 use Rattle.house.specs.Nodes.{digit, With}
@@ -42,7 +43,7 @@ module _ (s : Sheet) (st : State) (j : ℕ) (w : Told) where
       go (no ne) = ap₂ (λ (n : ℕ) (v : Told). waitsOn n (linkOf s p) v) e (getD-set-other st j p w silent ne) ∙ q
 
 -- ---- over the slices
-module _ {h : SheetHeld} {j : ℕ} {tr fs ts ls xs ss os inbox qs inbox' qs' : List ℕ} {t t' : Tally} (kept : Kept h tr fs ts ls xs ss os inbox qs t) (inside : j < h .links) (put : Stored j 1 fs xs os inbox qs inbox' qs' t t') where
+module _ {h : SheetHeld} {j : ℕ} {tr fs ts ls xs ss os inbox qs inbox' qs' : List ℕ} {t : Tally} {c : Change} (kept : Kept h tr fs ts ls xs ss os inbox qs t) (inside : j < h .links) (put : Stored j 1 fs xs os inbox qs inbox' qs' c) where
   abbrev s : Sheet
   s = sheetSaid h tr fs ts ls xs
 
@@ -76,10 +77,11 @@ module _ {h : SheetHeld} {j : ℕ} {tr fs ts ls xs ss os inbox qs inbox' qs' : L
       (sym (waits-kept kept a) ∙ e)
 
 -- ---- what mark promises, by whether the far node's status changed
-module _ {j live : ℕ} {fs xs os inbox qs cs inbox' qs' : List ℕ} {t t' : Tally} (put : Stored j 1 fs xs os inbox qs inbox' qs' t t') where
+module _ {j live : ℕ} {fs xs os inbox qs cs inbox' qs' : List ℕ} {c : Change} (put : Stored j 1 fs xs os inbox qs inbox' qs' c) where
   pub marked-same : {before after : ℕ} → before ≡ statusBy (getD qs (getD fs (getD os j 0) 0) 0) → after ≡ statusBy (getD qs' (getD fs (getD os j 0) 0) 0) → before ≡ after
-      → Amends j live fs xs os inbox qs cs inbox' qs' cs t (record { tally = t'; live = live })
+      → Amends j live fs xs os inbox qs cs inbox' qs' cs live
   marked-same x y e = record {
+    change = c;
     stored = put;
     passed = λ kept inside old. record {
       size = old .size;
@@ -92,8 +94,9 @@ module _ {j live : ℕ} {fs xs os inbox qs cs inbox' qs' : List ℕ} {t t' : Tal
       same i q = ap (λ (m : ℕ). statusBy (getD qs' m 0)) q ∙ sym y ∙ sym e ∙ x ∙ ap (λ (m : ℕ). statusBy (getD qs m 0)) (sym q)
 
   pub marked-anew : {more : ℕ} → length cs ≡ 64 → getD fs (getD os j 0) 0 < 64 → With live (getD fs (getD os j 0) 0) more
-      → Amends j live fs xs os inbox qs cs inbox' qs' (set cs (getD fs (getD os j 0) 0) 0) t (record { tally = t'; live = more })
+      → Amends j live fs xs os inbox qs cs inbox' qs' (set cs (getD fs (getD os j 0) 0) 0) more
   marked-anew {more} size far-in grown = record {
+    change = c;
     stored = put;
     passed = λ kept inside old. record {
       size = length-set cs far 0 ∙ size;

@@ -11,9 +11,9 @@ use Rattle.sheet.specs.Held.{sheetSaid}
 use Rattle.network.specs.Rows.{Sorted, Rows, Flow}
 use Rattle.node.specs.Net.{Graph}
 use Rattle.messages.specs.declared.Tally.{Tally}
+use Rattle.messages.specs.declared.Change.{Change}
 use Rattle.messages.specs.State.{Kept, LinkAt, waitingAt, Stored}
 use Rattle.house.specs.declared.Spot.{Spot}
-use Rattle.house.specs.declared.Marked.{Marked}
 use Rattle.house.specs.Nodes.{digit}
 
 -- each link below end stands in the slices
@@ -58,10 +58,11 @@ pub record Found (h : SheetHeld) (r : Spot) (fs xs os inbox qs cs : List ℕ) : 
   pub passed : Passed (h .links) (r .live) fs xs os inbox qs cs
 
 -- a word is stored on link j, and still nothing waits that has been passed
-pub record Amends (j live : ℕ) (fs xs os inbox qs cs inbox' qs' cs' : List ℕ) (t : Tally) (r : Marked) : Type 0 where
-  pub stored : Stored j 1 fs xs os inbox qs inbox' qs' t (r .tally)
-  pub passed : {h : SheetHeld} {tr ts ls ss : List ℕ} → Kept h tr fs ts ls xs ss os inbox qs t → j < h .links → Passed (h .links) live fs xs os inbox qs cs
-      → Passed (h .links) (r .live) fs xs os inbox' qs' cs'
+pub record Amends (j live : ℕ) (fs xs os inbox qs cs inbox' qs' cs' : List ℕ) (r : ℕ) : Type 0 where
+  pub change : Change
+  pub stored : Stored j 1 fs xs os inbox qs inbox' qs' change
+  pub passed : {h : SheetHeld} {tr ts ls ss : List ℕ} {t : Tally} → Kept h tr fs ts ls xs ss os inbox qs t → j < h .links → Passed (h .links) live fs xs os inbox qs cs
+      → Passed (h .links) r fs xs os inbox' qs' cs'
 
 -- the slices hold some sheet: traffic, far nodes, load steps and flowing places are not among them
 pub record GraphHeld (h : SheetHeld) (fs ss gs xs os : List ℕ) : Type 0 where

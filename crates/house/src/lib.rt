@@ -1,12 +1,11 @@
 // House order: each time the lowest link whose message waits. What waits depends only on who has been heard, so one fixed word is stored for every message.
 use desk::Told;
 use messages::Quiet;
-use messages::Tally;
 use sheet::SheetHeld;
 ghost use mathlib.Core.Path.{_≡_};
 ghost use Prim.Native.Nat.{_+_, _-_, _^_, _≤_, _<_};
 ghost use lib.ListN.{length};
-ghost use Rattle.messages.specs.State.{LinkAt, Room, Empty};
+ghost use Rattle.messages.specs.State.{LinkAt, Counted, Empty};
 ghost use Rattle.house.specs.Nodes.{digit, With, Without, FirstIn};
 ghost use Rattle.house.specs.House.{LinksAt, NextFrom, Searchable, Found, Amends, GraphHeld, HouseWritten};
 
@@ -16,12 +15,6 @@ const EVERY_NODE: u64 = 0xFFFF_FFFF_FFFF_FFFF;
 // A link, and the nodes that are live once it was found.
 struct Spot {
     link: usize,
-    live: u64,
-}
-
-// The tally after a word was stored, and the nodes that are live then.
-struct Marked {
-    tally: Tally,
     live: u64,
 }
 
@@ -129,10 +122,10 @@ fn find_lowest(
     }
 }
 
-// Stores the word on link j. Only its far node's status can change; where it does, that node's row is searched from its start again.
+// Stores the word on link j, and gives the nodes that are live then. Only its far node's status can change; where it does, that node's row
+// is searched from its start again. No message is delivered, so there is no tally to amend.
 fn mark(
     j: usize,
-    t: Tally,
     live: u64,
     from: &[u8],
     fraction: &[u32],
@@ -140,23 +133,20 @@ fn mark(
     inbox: &mut [u32],
     quiet: &mut [u32],
     cursor: &mut [u16],
-) -> Marked
-    requires { ⌜ LinkAt j (now from) (now fraction) (now opposite) (now inbox) (now quiet) × Room j (now from) (now fraction) (now opposite) (now inbox) (now quiet) t × (length (now cursor) ≡ 64) ⌝ }
-    ensures { λ r. ⌜ Amends j live (now (from .entry)) (now (fraction .entry)) (now (opposite .entry)) (now (inbox .entry)) (now (quiet .entry)) (now (cursor .entry)) (now (inbox .exit)) (now (quiet .exit)) (now (cursor .exit)) t r ⌝ }
+) -> u64
+    requires { ⌜ LinkAt j (now from) (now fraction) (now opposite) (now inbox) (now quiet) × Counted j (now from) (now fraction) (now opposite) (now inbox) (now quiet) × (length (now cursor) ≡ 64) ⌝ }
+    ensures { λ r. ⌜ Amends j live (now (from .entry)) (now (fraction .entry)) (now (opposite .entry)) (now (inbox .entry)) (now (quiet .entry)) (now (cursor .entry)) (now (inbox .exit)) (now (quiet .exit)) (now (cursor .exit)) r ⌝ }
 {
     let p = opposite[j] as usize;
     let far = from[p] as usize;
     let before = messages::status_of(Quiet(quiet[far]));
-    let tally = messages::store(j, Told(1), t, from, fraction, opposite, inbox, quiet);
+    messages::store(j, Told(1), from, fraction, opposite, inbox, quiet);
     let after = messages::status_of(Quiet(quiet[far]));
     if before == after {
-        return Marked { tally, live };
+        return live;
     }
     cursor[far] = 0;
-    Marked {
-        tally,
-        live: with(live, far),
-    }
+    with(live, far)
 }
 
 // Writes the house order into the front of out: a number for each link.
@@ -176,7 +166,7 @@ pub fn write_house(
 {
     let count = h.links;
     let mut cursor = [0u16; 64];
-    let mut t = messages::begin(h.head.nodes, starts, flow_starts, quiet);
+    messages::begin(h.head.nodes, starts, flow_starts, quiet);
     let mut live = EVERY_NODE;
     let mut k: usize = 0;
     while k < count {
@@ -192,9 +182,8 @@ pub fn write_house(
             &mut cursor,
         );
         out[k] = s.link as u16;
-        let m = mark(
+        live = mark(
             s.link,
-            t,
             s.live,
             from,
             fraction,
@@ -203,8 +192,6 @@ pub fn write_house(
             quiet,
             &mut cursor,
         );
-        t = m.tally;
-        live = m.live;
         k += 1;
     }
 }

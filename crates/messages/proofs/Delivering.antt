@@ -21,9 +21,10 @@ use Rattle.network.proofs.Rows.{held-length, held-at}
 use Rattle.node.specs.Net.{Tells, stateSaid, SmallInbox, Net}
 use Rattle.node.proofs.Held.{state-at, links-few, turns, desk-held, row-held}
 use Rattle.messages.specs.declared.Tally.{Tally}
-use Rattle.messages.specs.State.{Kept, Stored}
+use Rattle.messages.specs.declared.Change.{Change}
+use Rattle.messages.specs.State.{stepOf, Kept, Stored}
 use Rattle.messages.specs.Round.{Deliverable, Delivered}
-use Rattle.messages.proofs.Storing.{from-in, link-at, room-kept}
+use Rattle.messages.proofs.Storing.{from-in, link-at, counted-kept, spare-kept}
 
 module _ {h : SheetHeld} {tr fs ts ls xs ss gs ps os line : List ℕ} (net : Net h tr fs ts ls xs ss gs ps os line) {inbox qs : List ℕ} {t : Tally} (kept : Kept h tr fs ts ls xs ss os inbox qs t) {j : ℕ} (inside : j < h .links) where
   pub deliverable : SmallInbox inbox → Deliverable (h .head .step .0) j tr fs ss gs ps line xs os inbox qs t
@@ -32,7 +33,8 @@ module _ {h : SheetHeld} {tr fs ts ls xs ss gs ps os line : List ℕ} (net : Net
     traffic = net .graph .traffic-size;
     link = link-at kept inside;
     row = row-held net inbox (kept .inbox-size) (getD fs j 0) (from-in kept inside) small;
-    room = room-kept kept inside;
+    counted = counted-kept kept inside;
+    spare = spare-kept kept;
   }
 
   -- the message that link j's node works out
@@ -44,12 +46,12 @@ module _ {h : SheetHeld} {tr fs ts ls xs ss gs ps os line : List ℕ} (net : Net
       ∙ ap message (sym (desk-held net inbox (kept .inbox-size) (getD fs j 0) low))
       ∙ ap (λ (l : Link). message (desk (sheetSaid h tr fs ts ls xs) (stateSaid (h .links) os inbox) (l .from))) (sym (held-at (h .links) fs ts ls xs j inside))
 
-pub delivered-is : {h : SheetHeld} {j w : ℕ} {tr fs ss gs ps line xs os inbox qs inbox' qs' : List ℕ} {t t' : Tally} {m : Message}
+pub delivered-is : {h : SheetHeld} {j w : ℕ} {tr fs ss gs ps line xs os inbox qs inbox' qs' : List ℕ} {t t' : Tally} {m : Message} {c : Change}
     → Tells m (h .head .step .0) (getD tr (getD fs j 0) 0) ss line xs inbox (getD fs j 0) → toldOf w ≡ messageSaid m
-    → Stored j w fs xs os inbox qs inbox' qs' t t' → Delivered h j tr fs ss gs ps line xs os inbox qs inbox' qs' t t'
-delivered-is {h} {j} {os = os} {inbox = inbox} tells word put = record {
+    → Stored j w fs xs os inbox qs inbox' qs' c → t' ≡ stepOf t c → Delivered h j tr fs ss gs ps line xs os inbox qs inbox' qs' t t'
+delivered-is {h} {j} {os = os} {inbox = inbox} tells word put amended = record {
   said = λ net kept inside. put .said kept inside ∙ ap (set (stateSaid (h .links) os inbox) j) (word ∙ message-held net kept inside tells);
-  keeps = λ net kept inside. put .keeps kept inside;
+  keeps = λ net kept inside. rw amended (put .keeps kept inside);
 }
 
 -- ---- in a right state the stored delays are small

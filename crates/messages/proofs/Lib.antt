@@ -4,3 +4,4 @@ pub mod Storing
 pub mod Beginning
 pub mod Delivering
 pub mod Running
+mod Lent

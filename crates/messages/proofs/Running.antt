@@ -2,12 +2,13 @@
 use Prim.Native.Nat.{ℕ, suc, _+_, _≤_, _<_}
 use native.Mathlib.Omega.{arith}
 use native.Mathlib.Numerals.{add-one}
-use mathlib.Core.Path.{_≡_, sym, ap, _∙_}
-use mathlib.Core.Bool.{Bool, true, false, not}
+use mathlib.Core.Path.{_≡_, refl, sym, ap, _∙_}
+use mathlib.Core.Bool.{Bool, true, false}
 use mathlib.Core.List.{List, _∷_}
 use lib.ListN.{length, getD, drop}
 use lib.Seq.{drop-cons, drop-length}
-use borrow.Author.Tests.{le-leb, lt-leb, not-true, not-false}
+use lib.Dec.{leb}
+use borrow.Author.Tests.{leb-true, leb-false, le-leb, lt-leb}
 use Rattle.rules.specs.Sheet.{Sheet}
 use Rattle.rules.specs.Messages.{State, waits, stopped, left, runFrom, run}
 use Rattle.rules.proofs.Right.{Right, start-right, deliver-right}
@@ -17,8 +18,9 @@ use Rattle.sheet.specs.Held.{sheetSaid}
 use Rattle.network.proofs.Rows.{held-length}
 use Rattle.node.specs.Net.{stateSaid, SmallInbox, Net}
 use Rattle.messages.specs.declared.Tally.{Tally}
+use Rattle.messages.specs.declared.Ran.{Ran}
 use Rattle.messages.specs.declared.Ran.the-variants.{Stopped, Left}
-use Rattle.messages.specs.State.{waitingAt, Kept, LinkAt, Empty, Begun}
+use Rattle.messages.specs.State.{waitingAt, refusalAt, Kept, LinkAt, Empty, Begun}
 use Rattle.messages.specs.Round.{Deliverable, Delivered, NetHeld, ListRun}
 use Rattle.messages.proofs.Storing.{waits-kept, link-at}
 use Rattle.messages.proofs.Beginning.{state-start, begun-kept}
@@ -89,35 +91,56 @@ module _ {h : SheetHeld} {js tr fs ss gs ps line xs os inbox qs : List ℕ} {t :
   running-none empty begun = record { within = omega arith; inbox-size = empty .size; quiet-size = begun .size; each = λ net. standing-none net empty begun }
 
   module _ {k : ℕ} (inv : Running h js tr fs ss gs ps line xs os inbox qs t k) where
-    pub running-all : length js ≤ k → ListRun (Left t) h js tr fs ss gs ps line xs os inbox qs
-    running-all end = record { said = λ net. standing-all net (inv .each net) end (inv .within); keeps = λ net. inv .each net .kept }
+    pub running-all : {r : Ran} → length js ≤ k → r ≡ Left t → ListRun r h js tr fs ss gs ps line xs os inbox qs
+    running-all end e = rw e (record { said = λ net. standing-all net (inv .each net) end (inv .within); keeps = λ net. inv .each net .kept })
 
     module _ (low : k < length js) where
-      pub running-twelve : h .links ≤ getD js k 0 → ListRun (Stopped 12 k) h js tr fs ss gs ps line xs os inbox qs
-      running-twelve beyond = record { said = λ net. standing-twelve net (inv .each net) low beyond; keeps = λ net. tt }
+      module _ (inside : getD js k 0 < h .links) (held : NetHeld h tr fs ss gs ps line xs os) where
+        abbrev now : Standing h js tr fs (held .ts) (held .ls) ss xs os inbox qs t k
+        now = inv .each (held .net)
 
-      module _ (inside : getD js k 0 < h .links) where
-        module _ (held : NetHeld h tr fs ss gs ps line xs os) where
-          abbrev now : Standing h js tr fs (held .ts) (held .ls) ss xs os inbox qs t k
-          now = inv .each (held .net)
+        pub running-link : LinkAt (getD js k 0) fs xs os inbox qs
+        running-link = link-at (now .kept) inside
 
-          pub running-link : LinkAt (getD js k 0) fs xs os inbox qs
-          running-link = link-at (now .kept) inside
+        pub running-deliverable : Deliverable (h .head .step .0) (getD js k 0) tr fs ss gs ps line xs os inbox qs t
+        running-deliverable = deliverable (held .net) (now .kept) inside (right-small (now .kept) (now .right))
 
-          pub running-deliverable : Deliverable (h .head .step .0) (getD js k 0) tr fs ss gs ps line xs os inbox qs t
-          running-deliverable = deliverable (held .net) (now .kept) inside (right-small (now .kept) (now .right))
+        pub running-more : {inbox' qs' : List ℕ} {t' : Tally} → waitingAt (getD js k 0) fs xs os inbox qs ≡ true
+            → Delivered h (getD js k 0) tr fs ss gs ps line xs os inbox qs inbox' qs' t t' → Running h js tr fs ss gs ps line xs os inbox' qs' t' (k + 1)
+        running-more waiting done = let kept = done .keeps (held .net) (now .kept) inside in record {
+          within = omega arith;
+          inbox-size = kept .inbox-size;
+          quiet-size = kept .quiet-size;
+          each = λ net. standing-more net (inv .each net) low inside waiting done;
+        }
 
-          pub running-more : {inbox' qs' : List ℕ} {t' : Tally} {r : Bool} → r ≡ waitingAt (getD js k 0) fs xs os inbox qs → not r ≡ false
-              → Delivered h (getD js k 0) tr fs ss gs ps line xs os inbox qs inbox' qs' t t' → Running h js tr fs ss gs ps line xs os inbox' qs' t' (k + 1)
-          running-more {r = r} waiting e done = let kept = done .keeps (held .net) (now .kept) inside in record {
-            within = omega arith;
-            inbox-size = kept .inbox-size;
-            quiet-size = kept .quiet-size;
-            each = λ net. standing-more net (inv .each net) low inside (sym waiting ∙ not-false r e) done;
-          }
+      -- the number at k, by what it is refused with
+      module _ {number : ℕ} (answer : number ≡ refusalAt (h .links) (getD js k 0) fs xs os inbox qs) where
+        twelve : leb (h .links) (getD js k 0) ≡ true → number ≡ 12
+        twelve e = answer ∙ rw e
 
-        pub running-ten : {r : Bool} → r ≡ waitingAt (getD js k 0) fs xs os inbox qs → not r ≡ true → ListRun (Stopped 10 k) h js tr fs ss gs ps line xs os inbox qs
-        running-ten {r} waiting e = record { said = λ net. standing-ten net (inv .each net) low inside (sym waiting ∙ not-true r e); keeps = λ net. tt }
+        ten : leb (h .links) (getD js k 0) ≡ false → waitingAt (getD js k 0) fs xs os inbox qs ≡ false → number ≡ 10
+        ten e w = answer ∙ rw (e, w)
+
+        none : leb (h .links) (getD js k 0) ≡ false → waitingAt (getD js k 0) fs xs os inbox qs ≡ true → number ≡ 0
+        none e w = answer ∙ rw (e, w)
+
+        pub running-stopped : 0 < number → ListRun (Stopped number k) h js tr fs ss gs ps line xs os inbox qs
+        running-stopped some = record { said = λ net. go net (leb (h .links) (getD js k 0)) (waitingAt (getD js k 0) fs xs os inbox qs) refl refl; keeps = λ net. tt }
+          where
+            go : {ts ls : List ℕ} → Net h tr fs ts ls xs ss gs ps os line → (a b : Bool) → leb (h .links) (getD js k 0) ≡ a → waitingAt (getD js k 0) fs xs os inbox qs ≡ b
+                → stopped number k ≡ run (sheetSaid h tr fs ts ls xs) js
+            go net true b e w = rw (twelve e) (standing-twelve net (inv .each net) low (leb-true (h .links) (getD js k 0) e))
+            go net false false e w = rw (ten e w) (standing-ten net (inv .each net) low (leb-false (h .links) (getD js k 0) e) w)
+            go net false true e w = absurd (omega (arith, none e w))
+
+        pub running-clear : number ≤ 0 → (getD js k 0 < h .links) × (waitingAt (getD js k 0) fs xs os inbox qs ≡ true)
+        running-clear z = go (leb (h .links) (getD js k 0)) (waitingAt (getD js k 0) fs xs os inbox qs) refl refl
+          where
+            go : (a b : Bool) → leb (h .links) (getD js k 0) ≡ a → waitingAt (getD js k 0) fs xs os inbox qs ≡ b → (getD js k 0 < h .links) × (waitingAt (getD js k 0) fs xs os inbox qs ≡ true)
+            go true b e w = absurd (omega (arith, twelve e))
+            go false false e w = absurd (omega (arith, ten e w))
+            go false true e w = (leb-false (h .links) (getD js k 0) e, w)
 
 -- what a list leaves can be lent to the desks
 pub run-small : {h : SheetHeld} {js tr fs ts ls ss gs ps line xs os inbox qs : List ℕ} {t : Tally}

@@ -4,7 +4,7 @@ use native.Mathlib.Omega.{arith}
 use native.Mathlib.Decide.{ℕ-discrete}
 use mathlib.Core.Path.{_≡_, refl, sym, ap, ap₂, _∙_}
 use mathlib.Core.Logic.{_≢_}
-use mathlib.Core.Bool.{Bool, true, false, not, _&&_}
+use mathlib.Core.Bool.{Bool, true, false, cond, not, _&&_}
 use mathlib.Core.List.{List}
 use lib.ListN.{length, getD, set, length-set}
 use lib.Seq.{getD-set-same, getD-set-other}
@@ -22,7 +22,9 @@ use Rattle.network.proofs.Rows.{held-at}
 use Rattle.node.specs.Net.{stateSaid, Graph}
 use Rattle.node.proofs.Held.{state-length, state-at, links-few, held-in, stored}
 use Rattle.messages.specs.declared.Tally.{Tally}
-use Rattle.messages.specs.State.{isSilent, isSilentFlow, quietOf, statusBy, fewer, stepOf, Kept, LinkAt, waitingAt, Room, Stored}
+use Rattle.messages.specs.declared.Change.{Change}
+use Rattle.messages.specs.declared.Change.the-variants.{Again, Heard, Finished}
+use Rattle.messages.specs.State.{isSilent, isSilentFlow, quietOf, statusBy, fewer, changeOf, stepOf, Spare, Kept, LinkAt, waitingAt, Counted, Stored}
 use Rattle.messages.proofs.Counts.{count-same, count-but, heard-set}
 use Rattle.messages.proofs.Status.{and-true, heard-told, status-some, status-by, finished-by}
 
@@ -34,9 +36,12 @@ not-not : (x : Bool) → not (not x) ≡ x
 not-not true = refl
 not-not false = refl
 
-one-more : (t : Tally) (b : Bool) → (stepOf t b .deliveries ≡ t .deliveries + 1) × (stepOf t b .finished ≡ t .finished + bit b)
-one-more t true = (refl, refl)
-one-more t false = (refl, omega arith)
+one-more : (t : Tally) (q : ℕ) → (stepOf t (changeOf q) .deliveries ≡ t .deliveries + 1) × (stepOf t (changeOf q) .finished ≡ t .finished + bit (eqb (statusBy q) 2))
+one-more t q = go (eqb (statusBy q) 2)
+  where
+    go : (b : Bool) → (stepOf t (cond b Finished Heard) .deliveries ≡ t .deliveries + 1) × (stepOf t (cond b Finished Heard) .finished ≡ t .finished + bit b)
+    go true = (refl, refl)
+    go false = (refl, omega arith)
 
 -- ---- a word at place p of the inbox
 module _ {h : SheetHeld} {tr fs ts ls xs ss os : List ℕ} (graph : Graph h tr fs ts ls xs ss os) (inbox : List ℕ) (size : length inbox ≡ 512) (p : ℕ) (inside : p < h .links) where
@@ -107,6 +112,12 @@ module _ {h : SheetHeld} {tr fs ts ls xs ss os inbox qs : List ℕ} {t : Tally} 
   pub status-kept : (i : ℕ) → i < h .head .nodes → status (desk (sheetSaid h tr fs ts ls xs) (stateSaid (h .links) os inbox) i) ≡ statusBy (getD qs i 0)
   status-kept = status-by (kept .graph) inbox qs (kept .quiet)
 
+  pub spare-kept : Spare t
+  spare-kept = record {
+    deliveries = omega (arith, kept .deliveries, count-le heard (stateSaid (h .links) os inbox), state-length (h .links) os inbox, links-few (kept .graph));
+    finished = omega (arith, kept .finished-right, count-le (isFinished (sheetSaid h tr fs ts ls xs) (stateSaid (h .links) os inbox)) (below (h .head .nodes)), below-length (h .head .nodes), kept .graph .sound .few);
+  }
+
   module _ {j : ℕ} (inside : j < h .links) where
     pub from-in : getD fs j 0 < h .head .nodes
     from-in = kept .graph .sound .fits (heldAt fs ts ls xs j) (held-in (kept .graph) j inside) .from-in
@@ -154,12 +165,8 @@ module _ {h : SheetHeld} {tr fs ts ls xs ss os inbox qs : List ℕ} {t : Tally} 
       far = omega (arith, hearer-in, kept .graph .sound .few);
     }
 
-    pub room-kept : Room j fs xs os inbox qs t
-    room-kept = record {
-      counted = λ e. quiet-low (silent-is ∙ ap not e);
-      deliveries = omega (arith, kept .deliveries, count-le heard (stateSaid (h .links) os inbox), state-length (h .links) os inbox, links-few (kept .graph));
-      finished = omega (arith, kept .finished-right, count-le (isFinished (sheetSaid h tr fs ts ls xs) (stateSaid (h .links) os inbox)) (below (h .head .nodes)), below-length (h .head .nodes), kept .graph .sound .few);
-    }
+    pub counted-kept : Counted j fs xs os inbox qs
+    counted-kept e = quiet-low (silent-is ∙ ap not e)
 
     -- the state is kept with the counts and the tally amended
     module _ {w : ℕ} (word : 0 < w) where
@@ -205,23 +212,23 @@ module _ {h : SheetHeld} {tr fs ts ls xs ss os inbox qs : List ℕ} {t : Tally} 
           amended qs t (kept .quiet-size) (λ i ne. refl) (omega (arith, ap bit known, ap bit (no-and (ltb 0 (getD xs place 0)) known))) (omega (arith, ap bit e)) refl
 
       store-first : heard (toldOf (getD inbox place 0)) ≡ false
-          → Kept h tr fs ts ls xs ss os (set inbox place w) (set qs far (fewer (getD qs far 0) (getD xs place 0))) (stepOf t (eqb (statusBy (fewer (getD qs far 0) (getD xs place 0))) 2))
+          → Kept h tr fs ts ls xs ss os (set inbox place w) (set qs far (fewer (getD qs far 0) (getD xs place 0))) (stepOf t (changeOf (fewer (getD qs far 0) (getD xs place 0))))
       store-first e =
           let known : isSilent inbox place ≡ true = silent-is ∙ ap not e in
           let q : ℕ = fewer (getD qs far 0) (getD xs place 0) in
           let there : getD (set qs far q) far 0 ≡ q = getD-set-same qs far q 0 (omega (arith, link-at .far, kept .quiet-size)) in
-          let more = one-more t (eqb (statusBy q) 2) in
-          amended (set qs far q) (stepOf t (eqb (statusBy q) 2)) (length-set qs far q ∙ kept .quiet-size) (λ i ne. getD-set-other qs far i q 0 ne)
+          let more = one-more t q in
+          amended (set qs far q) (stepOf t (changeOf q)) (length-set qs far q ∙ kept .quiet-size) (λ i ne. getD-set-other qs far i q 0 ne)
           (omega (arith, there, quiet-low known, ap bit known, ap bit (and-true (ltb 0 (getD xs place 0)) known)))
           (omega (arith, more .0, ap bit e))
           (omega (arith, more .1, ap (λ (x : ℕ). bit (eqb (statusBy x) 2)) there, ap bit (status-some (getD qs far 0) (omega (arith, quiet-low known)))))
 
 -- ---- what store promises, where a word stood there and where none did
-module _ {j w : ℕ} {fs xs os inbox qs : List ℕ} {t : Tally} (word : 0 < w) where
-  pub stored-again : heard (toldOf (getD inbox (getD os j 0) 0)) ≡ true → Stored j w fs xs os inbox qs (set inbox (getD os j 0) w) qs t t
+module _ {j w : ℕ} {fs xs os inbox qs : List ℕ} (word : 0 < w) where
+  pub stored-again : heard (toldOf (getD inbox (getD os j 0) 0)) ≡ true → Stored j w fs xs os inbox qs (set inbox (getD os j 0) w) qs Again
   stored-again e = record { said = λ kept inside. state-now kept inside word; keeps = λ kept inside. store-again kept inside word e }
 
-  pub stored-first : {q stat : ℕ} {r : Tally} → heard (toldOf (getD inbox (getD os j 0) 0)) ≡ false
-      → q ≡ fewer (getD qs (getD fs (getD os j 0) 0) 0) (getD xs (getD os j 0) 0) → stat ≡ statusBy q → r ≡ stepOf t (eqb stat 2)
-      → Stored j w fs xs os inbox qs (set inbox (getD os j 0) w) (set qs (getD fs (getD os j 0) 0) q) t r
-  stored-first e a b c = record { said = λ kept inside. state-now kept inside word; keeps = λ kept inside. rw (c, b, a) (store-first kept inside word e) }
+  pub stored-first : {q : ℕ} {c : Change} → heard (toldOf (getD inbox (getD os j 0) 0)) ≡ false
+      → q ≡ fewer (getD qs (getD fs (getD os j 0) 0) 0) (getD xs (getD os j 0) 0) → c ≡ changeOf q
+      → Stored j w fs xs os inbox qs (set inbox (getD os j 0) w) (set qs (getD fs (getD os j 0) 0) q) c
+  stored-first e a b = record { said = λ kept inside. state-now kept inside word; keeps = λ kept inside. rw (b, a) (store-first kept inside word e) }

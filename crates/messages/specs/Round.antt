@@ -11,15 +11,16 @@ use Rattle.node.specs.Net.{RowAt, stateSaid, Net}
 use Rattle.messages.specs.declared.Tally.{Tally}
 use Rattle.messages.specs.declared.Ran.{Ran}
 use Rattle.messages.specs.declared.Ran.the-variants.{Stopped, Left}
-use Rattle.messages.specs.State.{Kept, LinkAt, Room}
+use Rattle.messages.specs.State.{Kept, LinkAt, Spare, Counted}
 
--- link j's node can work its message out, and there is room to store it
+-- link j's node can work its message out, and there is room to store it and to count it
 pub record Deliverable (step j : ℕ) (tr fs ss gs ps line xs os inbox qs : List ℕ) (t : Tally) : Type 0 where
   pub step-top : step ≤ largestStep
   pub traffic : length tr ≡ 64
   pub link : LinkAt j fs xs os inbox qs
   pub row : RowAt (getD fs j 0) ss gs ps line xs inbox
-  pub room : Room j fs xs os inbox qs t
+  pub counted : Counted j fs xs os inbox qs
+  pub spare : Spare t
 
 -- the delivery on link j was made, by the rules: in every state that the slices keep, of the one sheet that they hold
 pub record Delivered (h : SheetHeld) (j : ℕ) (tr fs ss gs ps line xs os inbox qs inbox' qs' : List ℕ) (t t' : Tally) : Type 0 where

@@ -1,10 +1,10 @@
 -- The state of a round in slices: what was delivered, how many neighbours each node has still to hear, the tally.
 use Prim.Native.Nat.{ℕ, _+_, _-_, _*_, _%_, _≤_, _<_}
 use mathlib.Core.Path.{_≡_}
-use mathlib.Core.Bool.{Bool, true, false, cond, _&&_}
+use mathlib.Core.Bool.{Bool, false, cond, _&&_}
 use mathlib.Core.List.{List}
 use lib.ListN.{length, getD, set}
-use lib.Dec.{ltb, eqb}
+use lib.Dec.{ltb, leb, eqb}
 use Rattle.rules.specs.Lists.{bit, counted, below, howMany}
 use Rattle.rules.specs.Desk.{heard}
 use Rattle.rules.specs.Messages.{waitsOn, delivered, finished}
@@ -13,6 +13,8 @@ use Rattle.sheet.specs.declared.SheetHeld.{SheetHeld}
 use Rattle.sheet.specs.Held.{sheetSaid}
 use Rattle.node.specs.Net.{stateSaid, Graph}
 use Rattle.messages.specs.declared.Tally.{Tally}
+use Rattle.messages.specs.declared.Change.{Change}
+use Rattle.messages.specs.declared.Change.the-variants.{Again, Heard, Finished}
 
 -- the numbers of node i's links
 abbrev pub rowNumbers : List ℕ → ℕ → List ℕ
@@ -41,10 +43,20 @@ waitsBy q x w = waitsOn (statusBy q) (record { from = 0; to = 0; load = 0; fract
 abbrev pub fewer : ℕ → ℕ → ℕ
 fewer q x = q - (1024 + bit (ltb 0 x))
 
--- one delivery more, and one node finished more where it finishes
-abbrev pub stepOf : Tally → Bool → Tally
-stepOf t true = record { deliveries = t .deliveries + 1; finished = t .finished + 1 }
-stepOf t false = record { deliveries = t .deliveries + 1; finished = t .finished }
+-- what a first word changes that leaves its far node with such a count
+abbrev pub changeOf : ℕ → Change
+changeOf q = cond (eqb (statusBy q) 2) Finished Heard
+
+-- the tally after a change: one delivery more where a word was heard, and one node finished more where it finishes
+abbrev pub stepOf : Tally → Change → Tally
+stepOf t Again = t
+stepOf t Heard = record { deliveries = t .deliveries + 1; finished = t .finished }
+stepOf t Finished = record { deliveries = t .deliveries + 1; finished = t .finished + 1 }
+
+-- the tally has room for one delivery more
+pub record Spare (t : Tally) : Type 0 where
+  pub deliveries : t .deliveries ≤ 512
+  pub finished : t .finished ≤ 64
 
 -- the counts and the tally are right
 pub record Kept (h : SheetHeld) (tr fs ts ls xs ss os inbox qs : List ℕ) (t : Tally) : Type 0 where
@@ -72,18 +84,20 @@ pub record LinkAt (j : ℕ) (fs xs os inbox qs : List ℕ) : Type 0 where
 abbrev pub waitingAt : ℕ → List ℕ → List ℕ → List ℕ → List ℕ → List ℕ → Bool
 waitingAt j fs xs os inbox qs = waitsBy (getD qs (getD fs j 0) 0) (getD xs j 0) (getD inbox (getD os j 0) 0)
 
--- the counts have room for a first word on link j, and the tally has for one delivery more
-pub record Room (j : ℕ) (fs xs os inbox qs : List ℕ) (t : Tally) : Type 0 where
-  pub counted : heard (toldOf (getD inbox (getD os j 0) 0)) ≡ false → 1024 + bit (ltb 0 (getD xs (getD os j 0) 0)) ≤ getD qs (getD fs (getD os j 0) 0) 0
-  pub deliveries : t .deliveries ≤ 512
-  pub finished : t .finished ≤ 64
+-- what a number j of a list is refused with, where there are so many links; 0 is no refusal
+abbrev pub refusalAt : ℕ → ℕ → List ℕ → List ℕ → List ℕ → List ℕ → List ℕ → ℕ
+refusalAt count j fs xs os inbox qs = cond (leb count j) 12 (cond (waitingAt j fs xs os inbox qs) 0 10)
 
--- the word w is stored on link j and nothing else changes but the counts and the tally, in every state that the slices keep
-pub record Stored (j w : ℕ) (fs xs os inbox qs inbox' qs' : List ℕ) (t t' : Tally) : Type 0 where
-  pub said : {h : SheetHeld} {tr ts ls ss : List ℕ} → Kept h tr fs ts ls xs ss os inbox qs t → j < h .links
+-- the counts have room for a first word on link j
+abbrev pub Counted : ℕ → List ℕ → List ℕ → List ℕ → List ℕ → List ℕ → Type 0
+Counted j fs xs os inbox qs = heard (toldOf (getD inbox (getD os j 0) 0)) ≡ false → 1024 + bit (ltb 0 (getD xs (getD os j 0) 0)) ≤ getD qs (getD fs (getD os j 0) 0) 0
+
+-- the word w is stored on link j and nothing else changes but the counts and the tally, by c, in every state that the slices keep
+pub record Stored (j w : ℕ) (fs xs os inbox qs inbox' qs' : List ℕ) (c : Change) : Type 0 where
+  pub said : {h : SheetHeld} {tr ts ls ss : List ℕ} {t : Tally} → Kept h tr fs ts ls xs ss os inbox qs t → j < h .links
       → stateSaid (h .links) os inbox' ≡ set (stateSaid (h .links) os inbox) j (toldOf w)
-  pub keeps : {h : SheetHeld} {tr ts ls ss : List ℕ} → Kept h tr fs ts ls xs ss os inbox qs t → j < h .links
-      → Kept h tr fs ts ls xs ss os inbox' qs' t'
+  pub keeps : {h : SheetHeld} {tr ts ls ss : List ℕ} {t : Tally} → Kept h tr fs ts ls xs ss os inbox qs t → j < h .links
+      → Kept h tr fs ts ls xs ss os inbox' qs' (stepOf t c)
 
 -- the row lengths of n nodes, and how many of each flow, as counts of neighbours to hear
 abbrev pub rowQuiet : List ℕ → List ℕ → ℕ → ℕ

@@ -8,16 +8,17 @@ ghost use Prim.Native.Nat.{_+_, _≤_, _<_};
 ghost use lib.Dec.{ltb, eqb};
 ghost use lib.ListN.{length, getD};
 ghost use Rattle.rules.specs.Lists.{bit};
-ghost use Rattle.messages.specs.State.{statusBy, waitsBy, fewer, stepOf, LinkAt, waitingAt, Room, Stored, rowQuiet, Empty, RowsAt, Begun};
+ghost use Rattle.messages.specs.State.{statusBy, waitsBy, fewer, changeOf, stepOf, LinkAt, waitingAt, refusalAt, Spare, Counted, Stored, rowQuiet, Empty, RowsAt, Begun};
+ghost use Rattle.messages.specs.declared.Ran.the-variants.{Left};
 ghost use Rattle.messages.specs.Round.{Deliverable, Delivered, NetHeld, ListRun};
 
 // How many neighbours a node has still to hear, times 1,024, and how many of them it has a flowing link to.
 pub struct Quiet(pub u32);
 
-// Deliveries made, nodes finished.
+// Deliveries made, nodes finished. A round has one, which each delivery amends where it stands.
 pub struct Tally {
-    pub deliveries: u16,
-    pub finished: u8,
+    pub deliveries: usize,
+    pub finished: usize,
 }
 
 pub fn status_of(q: Quiet) -> u8
@@ -70,47 +71,74 @@ fn hear_one(q: Quiet, x: Fraction) -> Quiet
     }
 }
 
-// One delivery more, and one node finished more where it finishes.
-fn stepped(t: Tally, finishes: bool) -> Tally
-    requires { ⌜ (t .deliveries ≤ 512) × (t .finished ≤ 64) ⌝ }
-    ensures { λ r. ⌜ r ≡ stepOf t finishes ⌝ }
+// What a stored word changes of the tally: nothing where one stood there already; else it is a delivery, and its far node may finish with it.
+pub enum Change {
+    Again,
+    Heard,
+    Finished,
+}
+
+// A first word leaves its far node with the counts q.
+fn change_of(q: Quiet) -> Change
+    ensures { λ r. ⌜ r ≡ changeOf (q .0) ⌝ }
 {
-    if finishes {
-        return Tally {
-            deliveries: t.deliveries + 1,
+    let stat = status_of(q);
+    if stat == 2 {
+        return Change::Finished;
+    }
+    Change::Heard
+}
+
+// The tally after a change.
+fn stepped(t: Tally, change: Change) -> Tally
+    requires { ⌜ Spare t ⌝ }
+    ensures { λ r. ⌜ r ≡ stepOf t change ⌝ }
+{
+    let deliveries = t.deliveries + 1;
+    match change {
+        Change::Again => t,
+        Change::Heard => Tally {
+            deliveries,
+            finished: t.finished,
+        },
+        Change::Finished => Tally {
+            deliveries,
             finished: t.finished + 1,
-        };
+        },
     }
-    Tally {
-        deliveries: t.deliveries + 1,
-        finished: t.finished,
-    }
+}
+
+// Amends the tally where it stands. This function, and those that lend it the tally, only pass it on: tools/forms makes their derivations.
+fn amend(t: &mut Tally, change: Change)
+    requires { ⌜ Spare (now t) ⌝ }
+    ensures { λ _. ⌜ now (t .exit) ≡ stepOf (now (t .entry)) change ⌝ }
+{
+    *t = stepped(*t, change);
 }
 
 // Stores a word on link j, where its far node hears it. Only the first word on a link counts as a delivery.
 pub fn store(
     j: usize,
     w: Told,
-    t: Tally,
     from: &[u8],
     fraction: &[u32],
     opposite: &[u16],
     inbox: &mut [u32],
     quiet: &mut [u32],
-) -> Tally
-    requires { ⌜ LinkAt j (now from) (now fraction) (now opposite) (now inbox) (now quiet) × Room j (now from) (now fraction) (now opposite) (now inbox) (now quiet) t × (0 < w .0) ⌝ }
-    ensures { λ r. ⌜ Stored j (w .0) (now (from .entry)) (now (fraction .entry)) (now (opposite .entry)) (now (inbox .entry)) (now (quiet .entry)) (now (inbox .exit)) (now (quiet .exit)) t r ⌝ }
+) -> Change
+    requires { ⌜ LinkAt j (now from) (now fraction) (now opposite) (now inbox) (now quiet) × Counted j (now from) (now fraction) (now opposite) (now inbox) (now quiet) × (0 < w .0) ⌝ }
+    ensures { λ r. ⌜ Stored j (w .0) (now (from .entry)) (now (fraction .entry)) (now (opposite .entry)) (now (inbox .entry)) (now (quiet .entry)) (now (inbox .exit)) (now (quiet .exit)) r ⌝ }
 {
     let p = opposite[j] as usize;
     let before = Told(inbox[p]);
     inbox[p] = w.0;
     if desk::is_heard(before) {
-        return t;
+        return Change::Again;
     }
     let b = from[p] as usize;
     let q = hear_one(Quiet(quiet[b]), Fraction(fraction[p]));
     quiet[b] = q.0;
-    stepped(t, status_of(q) == 2)
+    change_of(q)
 }
 
 fn wide(x: u16) -> u32
@@ -129,7 +157,7 @@ fn row_quiet(i: usize, starts: &[u16], flow_starts: &[u16]) -> Quiet
     Quiet(all * 1024 + flowing)
 }
 
-fn finished_bit(q: Quiet) -> u8
+fn finished_bit(q: Quiet) -> usize
     ensures { λ r. ⌜ (r ≡ bit (eqb (statusBy (q .0)) 2)) × (r ≤ 1) ⌝ }
 {
     if status_of(q) == 2 { 1 } else { 0 }
@@ -141,7 +169,7 @@ pub fn begin(n: u8, starts: &[u16], flow_starts: &[u16], quiet: &mut [u32]) -> T
     ensures { λ r. ⌜ Begun n (now (starts .entry)) (now («flow_starts» .entry)) (now (quiet .exit)) r ⌝ }
 {
     let count = n as usize;
-    let mut finished: u8 = 0;
+    let mut finished: usize = 0;
     let mut i: usize = 0;
     while i < count {
         let q = row_quiet(i, starts, flow_starts);
@@ -155,11 +183,12 @@ pub fn begin(n: u8, starts: &[u16], flow_starts: &[u16], quiet: &mut [u32]) -> T
     }
 }
 
-// The one delivery function: link j's node works its message out from its own records and what it has heard, and it is stored.
+// The one delivery function: link j's node works its message out from its own records and what it has heard, it is stored, and the
+// round's tally is amended where it stands.
 pub fn deliver(
     h: SheetHeld,
     j: usize,
-    t: Tally,
+    t: &mut Tally,
     traffic: &[u32],
     from: &[u8],
     starts: &[u16],
@@ -170,9 +199,9 @@ pub fn deliver(
     opposite: &[u16],
     inbox: &mut [u32],
     quiet: &mut [u32],
-) -> Tally
-    requires { ⌜ Deliverable (h .head .step .0) j (now traffic) (now from) (now starts) (now «flow_starts») (now flow) (now line) (now fraction) (now opposite) (now inbox) (now quiet) t ⌝ }
-    ensures { λ r. ⌜ Delivered h j (now (traffic .entry)) (now (from .entry)) (now (starts .entry)) (now («flow_starts» .entry)) (now (flow .entry)) (now (line .entry)) (now (fraction .entry)) (now (opposite .entry)) (now (inbox .entry)) (now (quiet .entry)) (now (inbox .exit)) (now (quiet .exit)) t r ⌝ }
+)
+    requires { ⌜ Deliverable (h .head .step .0) j (now traffic) (now from) (now starts) (now «flow_starts») (now flow) (now line) (now fraction) (now opposite) (now inbox) (now quiet) (now t) ⌝ }
+    ensures { λ _. ⌜ Delivered h j (now (traffic .entry)) (now (from .entry)) (now (starts .entry)) (now («flow_starts» .entry)) (now (flow .entry)) (now (line .entry)) (now (fraction .entry)) (now (opposite .entry)) (now (inbox .entry)) (now (quiet .entry)) (now (inbox .exit)) (now (quiet .exit)) (now (t .entry)) (now (t .exit)) ⌝ }
 {
     let i = from[j];
     let k = i as usize;
@@ -187,16 +216,8 @@ pub fn deliver(
         fraction,
         inbox,
     );
-    store(
-        j,
-        desk::told_by(m),
-        t,
-        from,
-        fraction,
-        opposite,
-        inbox,
-        quiet,
-    )
+    let change = store(j, desk::told_by(m), from, fraction, opposite, inbox, quiet);
+    amend(t, change);
 }
 
 // Stopped with a refusal's number and place, or the tally of the state that is left.
@@ -205,7 +226,35 @@ pub enum Ran {
     Left(Tally),
 }
 
-// The deliveries of a list, from the beginning: 12 before 10.
+fn left(t: Tally) -> Ran
+    ensures { λ r. ⌜ r ≡ Left t ⌝ }
+{
+    Ran::Left(t)
+}
+
+// What a number j of a list is refused with: 12 where it is no link's, then 10 where no message waits there; 0 is no refusal.
+fn refusal_at(
+    count: usize,
+    j: usize,
+    from: &[u8],
+    fraction: &[u32],
+    opposite: &[u16],
+    inbox: &[u32],
+    quiet: &[u32],
+) -> u8
+    requires { ⌜ (j < count → LinkAt j (now from) (now fraction) (now opposite) (now inbox) (now quiet)) ⌝ }
+    ensures { λ r. ⌜ r ≡ refusalAt count j (now (from .entry)) (now (fraction .entry)) (now (opposite .entry)) (now (inbox .entry)) (now (quiet .entry)) ⌝ }
+{
+    if count <= j {
+        return 12;
+    }
+    if is_waiting(j, from, fraction, opposite, inbox, quiet) {
+        return 0;
+    }
+    10
+}
+
+// The deliveries of a list, from the beginning.
 pub fn run_list(
     h: SheetHeld,
     order: &[u16],
@@ -228,16 +277,14 @@ pub fn run_list(
     let mut k: usize = 0;
     while k < order.len() {
         let j = order[k] as usize;
-        if count <= j {
-            return Ran::Stopped(12, k);
+        let number = refusal_at(count, j, from, fraction, opposite, inbox, quiet);
+        if 0 < number {
+            return Ran::Stopped(number, k);
         }
-        if !is_waiting(j, from, fraction, opposite, inbox, quiet) {
-            return Ran::Stopped(10, k);
-        }
-        t = deliver(
+        deliver(
             h,
             j,
-            t,
+            &mut t,
             traffic,
             from,
             starts,
@@ -251,5 +298,5 @@ pub fn run_list(
         );
         k += 1;
     }
-    Ran::Left(t)
+    left(t)
 }

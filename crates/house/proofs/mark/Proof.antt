@@ -18,11 +18,11 @@ shared-slice-read-far c = search needs
 cast-far : tie.Need-cast-far
 cast-far c = search needs
 
-mul-t15 : tie.Need-mul-t15
-mul-t15 c = search needs
+mul-t13 : tie.Need-mul-t13
+mul-t13 c = search needs
 
-slice-read-t21 : tie.Need-slice-read-t21
-slice-read-t21 c = search needs
+slice-read-t19 : tie.Need-slice-read-t19
+slice-read-t19 c = search needs
 
 status-of-requires : tie.Need-status-of-requires
 status-of-requires c κs = search needs
@@ -30,11 +30,11 @@ status-of-requires c κs = search needs
 store-requires : tie.Need-store-requires
 store-requires c κs = search needs
 
-mul-t15-2 : tie.Need-mul-t15-2
-mul-t15-2 c = search needs
+mul-t13-2 : tie.Need-mul-t13-2
+mul-t13-2 c = search needs
 
-slice-read-t21-2 : tie.Need-slice-read-t21-2
-slice-read-t21-2 c = search needs
+slice-read-t19-2 : tie.Need-slice-read-t19-2
+slice-read-t19-2 c = search needs
 
 status-of-requires-2 : tie.Need-status-of-requires-2
 status-of-requires-2 c κs = search needs
@@ -78,12 +78,12 @@ mark-spec =
     cast-p
     shared-slice-read-far
     cast-far
-    mul-t15
-    slice-read-t21
+    mul-t13
+    slice-read-t19
     status-of-requires
     store-requires
-    mul-t15-2
-    slice-read-t21-2
+    mul-t13-2
+    slice-read-t19-2
     status-of-requires-2
     same-length
     same-length-2

@@ -1,15 +1,15 @@
 use Prim.Native.Nat.{_-_}
 use borrow.Author.Needs.{needs}
-use Rattle.house.proofs.Choosing.{Choosing, choosing-rows, choosing-none, choosing-search, choosing-all, choosing-link, choosing-room, choosing-more}
+use Rattle.house.proofs.Choosing.{Choosing, choosing-rows, choosing-none, choosing-search, choosing-all, choosing-link, choosing-counted, choosing-more}
 use Rattle.house.proofs.write_house.Statement.{statement}
 use Rattle.house.proofs.write_house.Tie as tie
 
 abbrev Inv-loop : tie.InvT-loop
-Inv-loop h from starts flow-starts fraction opposite inbox₀ quiet₀ out₀ count cursor₀ t₀ live₀ k₀ inbox quiet out cursor t live k =
-    Choosing h from starts fraction opposite inbox quiet cursor out₀ out t live k
+Inv-loop h from starts flow-starts fraction opposite inbox₀ quiet₀ out₀ count cursor₀ live₀ k₀ inbox quiet out cursor live k =
+    Choosing h from starts fraction opposite inbox quiet cursor out₀ out live k
 
 abbrev μ-loop : tie.MeasureT-loop
-μ-loop h from starts flow-starts fraction opposite inbox₀ quiet₀ out₀ count cursor₀ t₀ live₀ k₀ inbox quiet out cursor t live k =
+μ-loop h from starts flow-starts fraction opposite inbox₀ quiet₀ out₀ count cursor₀ live₀ k₀ inbox quiet out cursor live k =
     count - k
 
 begin-requires : tie.Need-begin-requires Inv-loop μ-loop
@@ -37,7 +37,7 @@ slice-aggregate-mark : tie.Need-slice-aggregate-mark Inv-loop μ-loop
 slice-aggregate-mark c = search needs
 
 mark-requires : tie.Need-mark-requires Inv-loop μ-loop
-mark-requires c κs = let held = c .before .before .before .before .before .before .before .before .before .before .before .before .before .before .before .before .before .before .before .before .before .before .before .pre .0 in let inv = c .before .before .before .before .before .before .before .before .before .before .loop .inv in let found = c .before .before .before .before .before .find-lowest .ensures in (choosing-link held inv found, choosing-room held inv found, search needs)
+mark-requires c κs = let held = c .before .before .before .before .before .before .before .before .before .before .before .before .before .before .before .before .before .before .before .before .before .before .before .pre .0 in let inv = c .before .before .before .before .before .before .before .before .before .before .loop .inv in let found = c .before .before .before .before .before .find-lowest .ensures in (choosing-link held inv found, choosing-counted held inv found, search needs)
 
 add-k : tie.Need-add-k Inv-loop μ-loop
 add-k c = search needs
@@ -46,7 +46,7 @@ loop-less : tie.Need-loop-less Inv-loop μ-loop
 loop-less c = search needs
 
 loop-again : tie.Need-loop-again Inv-loop μ-loop
-loop-again c = let pre = c .before .before .before .before .before .before .before .before .before .before .before .before .before .before .before .before .before .before .before .before .before .before .before .before .before .before .before .before .before .before .pre in choosing-more (pre .0) (c .before .before .before .before .before .before .before .before .before .before .before .before .before .before .before .before .before .loop .inv) (c .before .before .before .before .before .before .before .before .before .before .before .before .find-lowest .ensures) (c .before .before .before .before .before .before .before .before .before .before .before .before .before .before .before .before .loop-test .taken) (pre .3) (c .before .before .before .before .before .before .mark .ensures)
+loop-again c = let pre = c .before .before .before .before .before .before .before .before .before .before .before .before .before .before .before .before .before .before .before .before .before .before .before .before .before .before .before .before .before .pre in choosing-more (pre .0) (c .before .before .before .before .before .before .before .before .before .before .before .before .before .before .before .before .loop .inv) (c .before .before .before .before .before .before .before .before .before .before .before .find-lowest .ensures) (c .before .before .before .before .before .before .before .before .before .before .before .before .before .before .before .loop-test .taken) (pre .3) (c .before .before .before .before .before .mark .ensures)
 
 same-length : tie.Need-same-length Inv-loop μ-loop
 same-length c = search needs

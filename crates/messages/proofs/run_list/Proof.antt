@@ -1,12 +1,15 @@
+-- The derivation is in `Proof/`, made by tools/forms.
+mod Lts
+mod Tie
 use Prim.Native.Nat.{_-_}
 use lib.ListN.{length}
 use mathlib.Core.Path.{sym, _∙_}
 use native.Mathlib.Omega.{arith}
 use borrow.Author.Needs.{needs}
 use Rattle.messages.proofs.Beginning.{rows-at}
-use Rattle.messages.proofs.Running.{Running, running-none, running-all, running-twelve, running-link, running-ten, running-deliverable, running-more}
+use Rattle.messages.proofs.Running.{Running, running-none, running-all, running-link, running-deliverable, running-more, running-stopped, running-clear}
 use Rattle.messages.proofs.run_list.Statement.{statement}
-use Rattle.messages.proofs.run_list.Tie as tie
+use Rattle.messages.proofs.run_list.Proof.Tie as tie
 
 abbrev Inv-loop : tie.InvT-loop
 Inv-loop h order traffic from starts flow-starts flow line fraction opposite inbox₀ quiet₀ count t₀ k₀ inbox quiet t k =
@@ -31,29 +34,20 @@ shared-slice-read-j c = search needs
 cast-j : tie.Need-cast-j Inv-loop μ-loop
 cast-j c = omega (arith, c .shared-slice-known10 .given (c .before .before .loop .k))
 
+refusal-at-requires : tie.Need-refusal-at-requires Inv-loop μ-loop
+refusal-at-requires c κs inside = running-link (c .before .before .before .before .loop .inv) (c .before .before .before .loop-test .taken) inside (c .before .before .before .before .before .before .before .before .before .before .before .before .before .before .before .before .before .before .before .before .pre .0)
+
 same-length : tie.Need-same-length Inv-loop μ-loop
-same-length c = c .before .before .before .loop .inv .inbox-size ∙ sym (c .before .before .before .before .before .before .before .before .before .before .before .before .before .before .before .before .before .before .before .pre .1 .size)
+same-length c = c .before .before .before .before .before .before .loop .inv .inbox-size ∙ sym (c .before .before .before .before .before .before .before .before .before .before .before .before .before .before .before .before .before .before .before .before .before .before .pre .1 .size)
 
 same-length-2 : tie.Need-same-length-2 Inv-loop μ-loop
-same-length-2 c = c .before .before .before .loop .inv .quiet-size ∙ sym (c .before .before .before .before .before .before .before .before .before .before .before .before .before .before .before .before .before .before .before .pre .2)
+same-length-2 c = c .before .before .before .before .before .before .loop .inv .quiet-size ∙ sym (c .before .before .before .before .before .before .before .before .before .before .before .before .before .before .before .before .before .before .before .before .before .before .pre .2)
 
 returns : tie.Need-returns Inv-loop μ-loop
-returns c = running-twelve (c .before .before .before .loop .inv) (c .before .before .loop-test .taken) (c .if1 .taken)
-
-is-waiting-requires : tie.Need-is-waiting-requires Inv-loop μ-loop
-is-waiting-requires c κs = running-link (c .before .before .before .before .before .loop .inv) (c .before .before .before .before .loop-test .taken) (c .before .before .if1 .left) (c .before .before .before .before .before .before .before .before .before .before .before .before .before .before .before .before .before .before .before .before .before .pre .0)
-
-same-length-3 : tie.Need-same-length-3 Inv-loop μ-loop
-same-length-3 c = c .before .before .before .before .before .before .before .loop .inv .inbox-size ∙ sym (c .before .before .before .before .before .before .before .before .before .before .before .before .before .before .before .before .before .before .before .before .before .before .before .pre .1 .size)
-
-same-length-4 : tie.Need-same-length-4 Inv-loop μ-loop
-same-length-4 c = c .before .before .before .before .before .before .before .loop .inv .quiet-size ∙ sym (c .before .before .before .before .before .before .before .before .before .before .before .before .before .before .before .before .before .before .before .before .before .before .before .pre .2)
-
-returns-2 : tie.Need-returns-2 Inv-loop μ-loop
-returns-2 c = running-ten (c .before .before .before .before .before .before .before .loop .inv) (c .before .before .before .before .before .before .loop-test .taken) (c .before .before .before .before .if1 .left) (c .before .is-waiting .ensures) (c .if2 .taken)
+returns c = running-stopped (c .before .before .before .before .before .before .loop .inv) (c .before .before .before .before .before .loop-test .taken) (c .before .refusal-at .ensures) (c .if1 .taken)
 
 deliver-requires : tie.Need-deliver-requires Inv-loop μ-loop
-deliver-requires c κs = running-deliverable (c .before .before .before .before .before .before .before .before .before .loop .inv) (c .before .before .before .before .before .before .before .before .loop-test .taken) (c .before .before .before .before .before .before .if1 .left) (c .before .before .before .before .before .before .before .before .before .before .before .before .before .before .before .before .before .before .before .before .before .before .before .before .before .pre .0)
+deliver-requires c κs = let clear = running-clear (c .before .before .before .before .before .before .before .before .before .loop .inv) (c .before .before .before .before .before .before .before .before .loop-test .taken) (c .before .before .before .before .refusal-at .ensures) (c .before .before .before .if1 .left) in running-deliverable (c .before .before .before .before .before .before .before .before .before .loop .inv) (c .before .before .before .before .before .before .before .before .loop-test .taken) (clear .0) (c .before .before .before .before .before .before .before .before .before .before .before .before .before .before .before .before .before .before .before .before .before .before .before .before .before .pre .0)
 
 add-k : tie.Need-add-k Inv-loop μ-loop
 add-k c = omega (arith, c .before .before .before .before .before .before .before .before .before .before .before .before .before .before .before .before .before .before .before .before .before .before .before .before .before .before .before .before .before .before .good .1 .0, c .before .before .before .before .before .before .before .before .before .before .before .before .before .loop-test .taken)
@@ -62,16 +56,19 @@ loop-less : tie.Need-loop-less Inv-loop μ-loop
 loop-less c = search needs
 
 loop-again : tie.Need-loop-again Inv-loop μ-loop
-loop-again c = running-more (c .before .before .before .before .before .before .before .before .before .before .before .before .before .before .loop .inv) (c .before .before .before .before .before .before .before .before .before .before .before .before .before .loop-test .taken) (c .before .before .before .before .before .before .before .before .before .before .before .if1 .left) (c .before .before .before .before .before .before .before .before .before .before .before .before .before .before .before .before .before .before .before .before .before .before .before .before .before .before .before .before .before .before .pre .0) (c .before .before .before .before .before .before .before .before .is-waiting .ensures) (c .before .before .before .before .before .before .before .if2 .left) (c .before .before .before .before .deliver .ensures)
+loop-again c = let clear = running-clear (c .before .before .before .before .before .before .before .before .before .before .before .before .before .before .loop .inv) (c .before .before .before .before .before .before .before .before .before .before .before .before .before .loop-test .taken) (c .before .before .before .before .before .before .before .before .before .refusal-at .ensures) (c .before .before .before .before .before .before .before .before .if1 .left) in running-more (c .before .before .before .before .before .before .before .before .before .before .before .before .before .before .loop .inv) (c .before .before .before .before .before .before .before .before .before .before .before .before .before .loop-test .taken) (clear .0) (c .before .before .before .before .before .before .before .before .before .before .before .before .before .before .before .before .before .before .before .before .before .before .before .before .before .before .before .before .before .before .pre .0) (clear .1) (c .before .before .before .before .deliver .ensures)
 
-same-length-5 : tie.Need-same-length-5 Inv-loop μ-loop
-same-length-5 c = c .before .loop .inv .inbox-size ∙ sym (c .before .before .before .before .before .before .before .before .before .before .before .before .before .before .before .before .before .pre .1 .size)
+left-requires : tie.Need-left-requires Inv-loop μ-loop
+left-requires c κs = search needs
 
-same-length-6 : tie.Need-same-length-6 Inv-loop μ-loop
-same-length-6 c = c .before .loop .inv .quiet-size ∙ sym (c .before .before .before .before .before .before .before .before .before .before .before .before .before .before .before .before .before .pre .2)
+same-length-3 : tie.Need-same-length-3 Inv-loop μ-loop
+same-length-3 c = c .before .before .loop .inv .inbox-size ∙ sym (c .before .before .before .before .before .before .before .before .before .before .before .before .before .before .before .before .before .before .pre .1 .size)
 
-returns-3 : tie.Need-returns-3 Inv-loop μ-loop
-returns-3 c = running-all (c .before .loop .inv) (c .loop-test .left)
+same-length-4 : tie.Need-same-length-4 Inv-loop μ-loop
+same-length-4 c = c .before .before .loop .inv .quiet-size ∙ sym (c .before .before .before .before .before .before .before .before .before .before .before .before .before .before .before .before .before .before .pre .2)
+
+returns-2 : tie.Need-returns-2 Inv-loop μ-loop
+returns-2 c = running-all (c .before .before .loop .inv) (c .before .loop-test .left) (c .left .ensures)
 
 pub run-list-spec : {M : Type 1} → statement M
 run-list-spec =
@@ -84,17 +81,15 @@ run-list-spec =
     mul-j
     shared-slice-read-j
     cast-j
+    refusal-at-requires
     same-length
     same-length-2
     returns
-    is-waiting-requires
-    same-length-3
-    same-length-4
-    returns-2
     deliver-requires
     add-k
     loop-less
     loop-again
-    same-length-5
-    same-length-6
-    returns-3)
+    left-requires
+    same-length-3
+    same-length-4
+    returns-2)

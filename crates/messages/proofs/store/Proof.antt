@@ -13,11 +13,11 @@ shared-slice-read-p c = search needs
 cast-p : tie.Need-cast-p
 cast-p c = search needs
 
-mul-t13 : tie.Need-mul-t13
-mul-t13 c = search needs
+mul-t12 : tie.Need-mul-t12
+mul-t12 c = search needs
 
-slice-read-t17 : tie.Need-slice-read-t17
-slice-read-t17 c = search needs
+slice-read-t16 : tie.Need-slice-read-t16
+slice-read-t16 c = search needs
 
 mul-inbox : tie.Need-mul-inbox
 mul-inbox c = search needs
@@ -40,20 +40,20 @@ shared-slice-read-b c = search needs
 cast-b : tie.Need-cast-b
 cast-b c = search needs
 
-mul-t13-2 : tie.Need-mul-t13-2
-mul-t13-2 c = search needs
+mul-t12-2 : tie.Need-mul-t12-2
+mul-t12-2 c = search needs
 
-slice-read-t17-2 : tie.Need-slice-read-t17-2
-slice-read-t17-2 c = search needs
+slice-read-t16-2 : tie.Need-slice-read-t16-2
+slice-read-t16-2 c = search needs
 
-mul-t24 : tie.Need-mul-t24
-mul-t24 c = search needs
+mul-t23 : tie.Need-mul-t23
+mul-t23 c = search needs
 
-shared-slice-read-t26 : tie.Need-shared-slice-read-t26
-shared-slice-read-t26 c = search needs
+shared-slice-read-t25 : tie.Need-shared-slice-read-t25
+shared-slice-read-t25 c = search needs
 
 hear-one-requires : tie.Need-hear-one-requires
-hear-one-requires c κs = c .before .before .before .before .before .before .before .before .before .before .before .before .pre .1 .counted (sym (c .before .before .before .before .is-heard .ensures) ∙ c .before .before .before .if1 .left)
+hear-one-requires c κs = c .before .before .before .before .before .before .before .before .before .before .before .before .pre .1 (sym (c .before .before .before .before .is-heard .ensures) ∙ c .before .before .before .if1 .left)
 
 mul-quiet : tie.Need-mul-quiet
 mul-quiet c = search needs
@@ -61,11 +61,8 @@ mul-quiet c = search needs
 slice-write-quiet : tie.Need-slice-write-quiet
 slice-write-quiet c = search needs
 
-status-of-requires : tie.Need-status-of-requires
-status-of-requires c κs = search needs
-
-stepped-requires : tie.Need-stepped-requires
-stepped-requires c κs = search needs
+change-of-requires : tie.Need-change-of-requires
+change-of-requires c κs = search needs
 
 same-length-2 : tie.Need-same-length-2
 same-length-2 c = search needs
@@ -74,7 +71,7 @@ same-length-3 : tie.Need-same-length-3
 same-length-3 c = search needs
 
 returns-2 : tie.Need-returns-2
-returns-2 c = stored-first (c .before .before .before .before .before .before .before .before .before .before .before .before .before .before .before .pre .2) (sym (c .before .before .before .before .before .before .before .is-heard .ensures) ∙ c .before .before .before .before .before .before .if1 .left) (c .before .before .hear-one .ensures) (c .before .status-of .ensures) (c .stepped .ensures)
+returns-2 c = stored-first (c .before .before .before .before .before .before .before .before .before .before .before .before .before .before .pre .2) (sym (c .before .before .before .before .before .before .is-heard .ensures) ∙ c .before .before .before .before .before .if1 .left) (c .before .hear-one .ensures) (c .change-of .ensures)
 
 pub store-spec : {M : Type 1} → statement M
 store-spec =
@@ -83,8 +80,8 @@ store-spec =
     mul-p
     shared-slice-read-p
     cast-p
-    mul-t13
-    slice-read-t17
+    mul-t12
+    slice-read-t16
     mul-inbox
     slice-write-inbox
     is-heard-requires
@@ -92,15 +89,14 @@ store-spec =
     returns
     shared-slice-read-b
     cast-b
-    mul-t13-2
-    slice-read-t17-2
-    mul-t24
-    shared-slice-read-t26
+    mul-t12-2
+    slice-read-t16-2
+    mul-t23
+    shared-slice-read-t25
     hear-one-requires
     mul-quiet
     slice-write-quiet
-    status-of-requires
-    stepped-requires
+    change-of-requires
     same-length-2
     same-length-3
     returns-2)

@@ -1,0 +1,138 @@
+-- The needs, at its contract, of `messages::deliver`. Made by tools/forms.
+use Rattle.desk.proofs.told_by.Met
+use Rattle.desk.proofs.told_by.Reads
+use Rattle.desk.proofs.told_by.Symbol
+use Rattle.messages.proofs.amend.Met as Met'
+use Rattle.messages.proofs.Lent.amend.Reads as Reads'
+use Rattle.messages.proofs.amend.Symbol as Symbol'
+use Rattle.messages.proofs.deliver.Code
+use Rattle.messages.proofs.deliver.Key
+use Rattle.messages.proofs.Lent.deliver.Kinds
+use Rattle.messages.proofs.deliver.Proof.Lts
+use Rattle.messages.proofs.Lent.deliver.Reads as Reads''
+use Rattle.messages.proofs.deliver.Statement
+use Rattle.messages.proofs.store.Met as Met''
+use Rattle.messages.proofs.store.Reads as Reads'3
+use Rattle.messages.proofs.store.Symbol as Symbol''
+use Rattle.node.proofs.message_of.Met as Met'3
+use Rattle.node.proofs.message_of.Reads as Reads'4
+use Rattle.node.proofs.message_of.Symbol as Symbol'3
+use borrow.Fn.Run
+use borrow.Fn.Written
+use contract.Running
+
+abbrev pub Start : Type 0
+Start = Lts.Start (Reads'4.Asked, Reads'4.Learnt, Reads.Asked, Reads.Learnt, Reads'3.Asked, Reads'3.Learnt, Reads'.Asked, Reads'.Learnt) Reads''.Pre Reads''.Post
+
+abbrev pub After-shared-slice-known : Type 0
+After-shared-slice-known = Lts.After-shared-slice-known (Reads'4.Asked, Reads'4.Learnt, Reads.Asked, Reads.Learnt, Reads'3.Asked, Reads'3.Learnt, Reads'.Asked, Reads'.Learnt) Reads''.Pre Reads''.Post
+
+abbrev pub After-shared-slice-known2 : Type 0
+After-shared-slice-known2 = Lts.After-shared-slice-known2 (Reads'4.Asked, Reads'4.Learnt, Reads.Asked, Reads.Learnt, Reads'3.Asked, Reads'3.Learnt, Reads'.Asked, Reads'.Learnt) Reads''.Pre Reads''.Post
+
+abbrev pub After-shared-slice-known3 : Type 0
+After-shared-slice-known3 = Lts.After-shared-slice-known3 (Reads'4.Asked, Reads'4.Learnt, Reads.Asked, Reads.Learnt, Reads'3.Asked, Reads'3.Learnt, Reads'.Asked, Reads'.Learnt) Reads''.Pre Reads''.Post
+
+abbrev pub After-shared-slice-known4 : Type 0
+After-shared-slice-known4 = Lts.After-shared-slice-known4 (Reads'4.Asked, Reads'4.Learnt, Reads.Asked, Reads.Learnt, Reads'3.Asked, Reads'3.Learnt, Reads'.Asked, Reads'.Learnt) Reads''.Pre Reads''.Post
+
+abbrev pub After-shared-slice-known5 : Type 0
+After-shared-slice-known5 = Lts.After-shared-slice-known5 (Reads'4.Asked, Reads'4.Learnt, Reads.Asked, Reads.Learnt, Reads'3.Asked, Reads'3.Learnt, Reads'.Asked, Reads'.Learnt) Reads''.Pre Reads''.Post
+
+abbrev pub After-shared-slice-known6 : Type 0
+After-shared-slice-known6 = Lts.After-shared-slice-known6 (Reads'4.Asked, Reads'4.Learnt, Reads.Asked, Reads.Learnt, Reads'3.Asked, Reads'3.Learnt, Reads'.Asked, Reads'.Learnt) Reads''.Pre Reads''.Post
+
+abbrev pub After-shared-slice-known7 : Type 0
+After-shared-slice-known7 = Lts.After-shared-slice-known7 (Reads'4.Asked, Reads'4.Learnt, Reads.Asked, Reads.Learnt, Reads'3.Asked, Reads'3.Learnt, Reads'.Asked, Reads'.Learnt) Reads''.Pre Reads''.Post
+
+abbrev pub After-shared-slice-known8 : Type 0
+After-shared-slice-known8 = Lts.After-shared-slice-known8 (Reads'4.Asked, Reads'4.Learnt, Reads.Asked, Reads.Learnt, Reads'3.Asked, Reads'3.Learnt, Reads'.Asked, Reads'.Learnt) Reads''.Pre Reads''.Post
+
+abbrev pub After-slice-known : Type 0
+After-slice-known = Lts.After-slice-known (Reads'4.Asked, Reads'4.Learnt, Reads.Asked, Reads.Learnt, Reads'3.Asked, Reads'3.Learnt, Reads'.Asked, Reads'.Learnt) Reads''.Pre Reads''.Post
+
+abbrev pub After-slice-known2 : Type 0
+After-slice-known2 = Lts.After-slice-known2 (Reads'4.Asked, Reads'4.Learnt, Reads.Asked, Reads.Learnt, Reads'3.Asked, Reads'3.Learnt, Reads'.Asked, Reads'.Learnt) Reads''.Pre Reads''.Post
+
+abbrev pub After-shared-slice-known9 : Type 0
+After-shared-slice-known9 = Lts.After-shared-slice-known9 (Reads'4.Asked, Reads'4.Learnt, Reads.Asked, Reads.Learnt, Reads'3.Asked, Reads'3.Learnt, Reads'.Asked, Reads'.Learnt) Reads''.Pre Reads''.Post
+
+abbrev pub After-shared-slice-known10 : Type 0
+After-shared-slice-known10 = Lts.After-shared-slice-known10 (Reads'4.Asked, Reads'4.Learnt, Reads.Asked, Reads.Learnt, Reads'3.Asked, Reads'3.Learnt, Reads'.Asked, Reads'.Learnt) Reads''.Pre Reads''.Post
+
+abbrev pub After-message-of-arg : Type 0
+After-message-of-arg = Lts.After-message-of-arg (Reads'4.Asked, Reads'4.Learnt, Reads.Asked, Reads.Learnt, Reads'3.Asked, Reads'3.Learnt, Reads'.Asked, Reads'.Learnt) Reads''.Pre Reads''.Post
+
+abbrev pub After-message-of : Type 0
+After-message-of = Lts.After-message-of (Reads'4.Asked, Reads'4.Learnt, Reads.Asked, Reads.Learnt, Reads'3.Asked, Reads'3.Learnt, Reads'.Asked, Reads'.Learnt) Reads''.Pre Reads''.Post
+
+abbrev pub After-told-by : Type 0
+After-told-by = Lts.After-told-by (Reads'4.Asked, Reads'4.Learnt, Reads.Asked, Reads.Learnt, Reads'3.Asked, Reads'3.Learnt, Reads'.Asked, Reads'.Learnt) Reads''.Pre Reads''.Post
+
+abbrev pub After-store-arg : Type 0
+After-store-arg = Lts.After-store-arg (Reads'4.Asked, Reads'4.Learnt, Reads.Asked, Reads.Learnt, Reads'3.Asked, Reads'3.Learnt, Reads'.Asked, Reads'.Learnt) Reads''.Pre Reads''.Post
+
+abbrev pub After-store-arg2 : Type 0
+After-store-arg2 = Lts.After-store-arg2 (Reads'4.Asked, Reads'4.Learnt, Reads.Asked, Reads.Learnt, Reads'3.Asked, Reads'3.Learnt, Reads'.Asked, Reads'.Learnt) Reads''.Pre Reads''.Post
+
+abbrev pub After-store : Type 0
+After-store = Lts.After-store (Reads'4.Asked, Reads'4.Learnt, Reads.Asked, Reads.Learnt, Reads'3.Asked, Reads'3.Learnt, Reads'.Asked, Reads'.Learnt) Reads''.Pre Reads''.Post
+
+abbrev pub After-inbox : Type 0
+After-inbox = Lts.After-inbox (Reads'4.Asked, Reads'4.Learnt, Reads.Asked, Reads.Learnt, Reads'3.Asked, Reads'3.Learnt, Reads'.Asked, Reads'.Learnt) Reads''.Pre Reads''.Post
+
+abbrev pub After-slice-known3 : Type 0
+After-slice-known3 = Lts.After-slice-known3 (Reads'4.Asked, Reads'4.Learnt, Reads.Asked, Reads.Learnt, Reads'3.Asked, Reads'3.Learnt, Reads'.Asked, Reads'.Learnt) Reads''.Pre Reads''.Post
+
+abbrev pub After-quiet : Type 0
+After-quiet = Lts.After-quiet (Reads'4.Asked, Reads'4.Learnt, Reads.Asked, Reads.Learnt, Reads'3.Asked, Reads'3.Learnt, Reads'.Asked, Reads'.Learnt) Reads''.Pre Reads''.Post
+
+abbrev pub After-slice-known4 : Type 0
+After-slice-known4 = Lts.After-slice-known4 (Reads'4.Asked, Reads'4.Learnt, Reads.Asked, Reads.Learnt, Reads'3.Asked, Reads'3.Learnt, Reads'.Asked, Reads'.Learnt) Reads''.Pre Reads''.Post
+
+abbrev pub After-amend-arg : Type 0
+After-amend-arg = Lts.After-amend-arg (Reads'4.Asked, Reads'4.Learnt, Reads.Asked, Reads.Learnt, Reads'3.Asked, Reads'3.Learnt, Reads'.Asked, Reads'.Learnt) Reads''.Pre Reads''.Post
+
+abbrev pub After-amend : Type 0
+After-amend = Lts.After-amend (Reads'4.Asked, Reads'4.Learnt, Reads.Asked, Reads.Learnt, Reads'3.Asked, Reads'3.Learnt, Reads'.Asked, Reads'.Learnt) Reads''.Pre Reads''.Post
+
+abbrev pub Need-shared-slice-read-i : Type 0
+Need-shared-slice-read-i = Lts.Need-shared-slice-read-i (Reads'4.Asked, Reads'4.Learnt, Reads.Asked, Reads.Learnt, Reads'3.Asked, Reads'3.Learnt, Reads'.Asked, Reads'.Learnt) Reads''.Pre Reads''.Post
+
+abbrev pub Need-cast-k : Type 0
+Need-cast-k = Lts.Need-cast-k (Reads'4.Asked, Reads'4.Learnt, Reads.Asked, Reads.Learnt, Reads'3.Asked, Reads'3.Learnt, Reads'.Asked, Reads'.Learnt) Reads''.Pre Reads''.Post
+
+abbrev pub Need-mul-t20 : Type 0
+Need-mul-t20 = Lts.Need-mul-t20 (Reads'4.Asked, Reads'4.Learnt, Reads.Asked, Reads.Learnt, Reads'3.Asked, Reads'3.Learnt, Reads'.Asked, Reads'.Learnt) Reads''.Pre Reads''.Post
+
+abbrev pub Need-shared-slice-read-t22 : Type 0
+Need-shared-slice-read-t22 = Lts.Need-shared-slice-read-t22 (Reads'4.Asked, Reads'4.Learnt, Reads.Asked, Reads.Learnt, Reads'3.Asked, Reads'3.Learnt, Reads'.Asked, Reads'.Learnt) Reads''.Pre Reads''.Post
+
+abbrev pub Need-message-of-requires : Type 0
+Need-message-of-requires = Lts.Need-message-of-requires (Reads'4.Asked, Reads'4.Learnt, Reads.Asked, Reads.Learnt, Reads'3.Asked, Reads'3.Learnt, Reads'.Asked, Reads'.Learnt) Reads''.Pre Reads''.Post
+
+abbrev pub Need-told-by-requires : Type 0
+Need-told-by-requires = Lts.Need-told-by-requires (Reads'4.Asked, Reads'4.Learnt, Reads.Asked, Reads.Learnt, Reads'3.Asked, Reads'3.Learnt, Reads'.Asked, Reads'.Learnt) Reads''.Pre Reads''.Post
+
+abbrev pub Need-store-requires : Type 0
+Need-store-requires = Lts.Need-store-requires (Reads'4.Asked, Reads'4.Learnt, Reads.Asked, Reads.Learnt, Reads'3.Asked, Reads'3.Learnt, Reads'.Asked, Reads'.Learnt) Reads''.Pre Reads''.Post
+
+abbrev pub Need-amend-requires : Type 0
+Need-amend-requires = Lts.Need-amend-requires (Reads'4.Asked, Reads'4.Learnt, Reads.Asked, Reads.Learnt, Reads'3.Asked, Reads'3.Learnt, Reads'.Asked, Reads'.Learnt) Reads''.Pre Reads''.Post
+
+abbrev pub Need-same-length : Type 0
+Need-same-length = Lts.Need-same-length (Reads'4.Asked, Reads'4.Learnt, Reads.Asked, Reads.Learnt, Reads'3.Asked, Reads'3.Learnt, Reads'.Asked, Reads'.Learnt) Reads''.Pre Reads''.Post
+
+abbrev pub Need-same-length-2 : Type 0
+Need-same-length-2 = Lts.Need-same-length-2 (Reads'4.Asked, Reads'4.Learnt, Reads.Asked, Reads.Learnt, Reads'3.Asked, Reads'3.Learnt, Reads'.Asked, Reads'.Learnt) Reads''.Pre Reads''.Post
+
+abbrev pub Need-returns : Type 0
+Need-returns = Lts.Need-returns (Reads'4.Asked, Reads'4.Learnt, Reads.Asked, Reads.Learnt, Reads'3.Asked, Reads'3.Learnt, Reads'.Asked, Reads'.Learnt) Reads''.Pre Reads''.Post
+
+module _ {M : Type 1} where
+  pub spec : (answer : Need-shared-slice-read-i) → (answer : Need-cast-k) → (answer : Need-mul-t20) → (answer : Need-shared-slice-read-t22) → (answer : Need-message-of-requires) → (answer : Need-told-by-requires) → (answer : Need-store-requires) → (answer : Need-amend-requires) → (answer : Need-same-length) → (answer : Need-same-length-2) → (answer : Need-returns) → Lts.Closed (Reads'4.Asked, Reads'4.Learnt, Reads.Asked, Reads.Learnt, Reads'3.Asked, Reads'3.Learnt, Reads'.Asked, Reads'.Learnt) Reads''.Pre Reads''.Post M
+  spec = λ answer answer' answer'' answer'3 answer'4 answer'5 answer'6 answer'7 answer'8 answer'9 answer'10. Lts.spec (Reads'4.Asked, Reads'4.Learnt, Reads.Asked, Reads.Learnt, Reads'3.Asked, Reads'3.Learnt, Reads'.Asked, Reads'.Learnt) Reads''.Pre Reads''.Post answer answer' answer'' answer'3 answer'4 answer'5 answer'6 answer'7 answer'8 answer'9 answer'10
+
+  pub close : Lts.Closed (Reads'4.Asked, Reads'4.Learnt, Reads.Asked, Reads.Learnt, Reads'3.Asked, Reads'3.Learnt, Reads'.Asked, Reads'.Learnt) Reads''.Pre Reads''.Post M → Statement.statement M
+  unfolding Code.routine Running.tablesOf
+  close = λ closed 𝓤 H 𝓜 𝓖 𝓡. Written.close 11 Kinds.ps Kinds.r Reads''.Ghost Reads''.requires Reads''.ensures Reads''.pre-read Reads''.Pinned Reads''.Owned Reads''.post-read record { M = M; 𝓤 = 𝓤; H = H; 𝓜 = 𝓜; 𝓖 = 𝓖; 𝓡 = 𝓡 } Code.env Key.name Code.function (Code.unfolded 𝓤 H 𝓜 𝓡) (λ κs a g. tt) (λ κs. Reads''.owns κs record { M = M; 𝓤 = 𝓤; H = H; 𝓜 = 𝓜; 𝓖 = 𝓖; 𝓡 = 𝓡 }) (Reads''.passes record { M = M; 𝓤 = 𝓤; H = H; 𝓜 = 𝓜; 𝓖 = 𝓖; 𝓡 = 𝓡 }) λ g. closed 𝓤 H (𝓖 .A) (Running.givenOf 𝓤 H 𝓜 𝓖) (Run.Over 𝓤 H 𝓜 𝓖 𝓡 Code.env) (Reads'4.known record { M = M; 𝓤 = 𝓤; H = H; 𝓜 = 𝓜; 𝓖 = 𝓖; 𝓡 = 𝓡 } Code.env Symbol'3.name Symbol'3.routine Code.calls-node·message-of (Met'3.met 𝓤 H 𝓜 𝓖 𝓡)) (Reads.known record { M = M; 𝓤 = 𝓤; H = H; 𝓜 = 𝓜; 𝓖 = 𝓖; 𝓡 = 𝓡 } Code.env Symbol.name Symbol.routine Code.calls-desk·told-by (Met.met 𝓤 H 𝓜 𝓖 𝓡)) (Reads'3.known record { M = M; 𝓤 = 𝓤; H = H; 𝓜 = 𝓜; 𝓖 = 𝓖; 𝓡 = 𝓡 } Code.env Symbol''.name Symbol''.routine Code.calls-messages·store (Met''.met 𝓤 H 𝓜 𝓖 𝓡)) (Reads'.known record { M = M; 𝓤 = 𝓤; H = H; 𝓜 = 𝓜; 𝓖 = 𝓖; 𝓡 = 𝓡 } Code.env Symbol'.name Symbol'.routine Code.calls-messages·amend (Met'.met 𝓤 H 𝓜 𝓖 𝓡))
