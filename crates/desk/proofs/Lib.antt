@@ -1,3 +1,3 @@
 pub mod Places
-pub mod Keys
+pub mod Choices
 pub mod Shares

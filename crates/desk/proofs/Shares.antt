@@ -1,5 +1,5 @@
 -- What is cut at the flowing places, and that the best gains it: the new row.
-use Prim.Native.Nat.{ℕ, zero, suc, _+_, _-_, _/_, _%_, _≤_, _<_}
+use Prim.Native.Nat.{ℕ, zero, suc, _+_, _-_, _≤_, _<_}
 use mathlib.Core.Path.{_≡_, refl, sym, ap, ap₂, _∙_, subst}
 use mathlib.Core.Logic.{_⊎_, inl, inr, _≢_}
 use mathlib.Core.Bool.{Bool, true, false, cond, not, _&&_}
@@ -17,9 +17,10 @@ use Rattle.rules.proofs.Tests.{known, clash, eqb-self}
 use Rattle.rules.proofs.Lists.{in-keep, keep-in, map-eq, total-keep, total-map, total-but, below-length, below-in, table-at}
 use Rattle.rules.proofs.Desk.{cut-by-le, flowing-allowed, best-is, BestIs}
 use Rattle.desk.specs.Ways.{waysOf, deskWith, flowing, Row, Rises}
-use Rattle.desk.specs.Work.{wayAt, Held, places, keyAt, leastKey, cutAt, shorn, Shorn}
+use Rattle.desk.specs.Work.{wayAt, Held, choiceAt, lowest, cutAt, shorn, Shorn}
+use Rattle.desk.specs.declared.Choice.{Choice}
 use Rattle.desk.proofs.Places.{wayTo, ways-are, read-back, held, flows-at, flow-small, cost-top, cut-le, back}
-use Rattle.desk.proofs.Keys.{KeyIs, key-best, key-inside}
+use Rattle.desk.proofs.Choices.{ChoiceIs, choice-best, chosen-inside}
 
 -- ---- a list whose every place is below those after it
 abbrev Rising : List ℕ → Type 0
@@ -146,15 +147,15 @@ module _ {f : ℕ → ℕ} {ls xs ks ps ys : List ℕ} {g : ℕ} (r : Row ls xs 
   cut-at : (q : ℕ) → q < length xs → getD ys q 0 ≡ getD xs q 0 - f q
   cut-at q a = ap (λ (l : List ℕ). getD l q 0) (h .left ∙ ap (shorn f xs) (r .flow)) ∙ shorn-at f xs q a
 
-  -- the place that the least key names
-  module _ {k i : ℕ} (some : 0 < length xs) (e : k ≡ leastKey (keyAt ls xs ks) (below (length xs))) (y : i ≡ k % places) where
-    pub best-inside : i < length ys
-    best-inside = omega (arith, key-inside r some e, cut-length)
+  -- the place that is chosen
+  module _ {k : Choice} (some : 0 < length xs) (e : k ≡ lowest (choiceAt ls xs ks) (below (length xs))) where
+    pub best-inside : k .place < length ys
+    best-inside = omega (arith, chosen-inside ls xs ks some e, cut-length)
 
-    pub best-fits : getD ys i 0 + g < 4294967296
+    pub best-fits : getD ys (k .place) 0 + g < 4294967296
     best-fits =
-        let a : i < length xs = omega (arith, key-inside r some e) in
-        omega (arith, cut-at i a, held r i a .fraction-small, h .small)
+        let a = chosen-inside ls xs ks some e in
+        omega (arith, cut-at (k .place) a, held r (k .place) a .fraction-small, h .small)
 
 -- ---- the new row
 none-in : (ps : List ℕ) → ((p : ℕ) → In p ps → ⊥) → ps ≡ []
@@ -259,18 +260,15 @@ module _ (s t : ℕ) {ls xs ks ps : List ℕ} (r : Row ls xs ks ps) (fs : List �
       ∙ sym row-of
 
   -- the row after the best has gained all that was cut
-  pub new-row-is : {k c i g v : ℕ} {ys : List ℕ} → 0 < length xs → k ≡ leastKey (keyAt ls xs ks) (below (length xs)) → c ≡ k / places → i ≡ k % places
-      → Shorn (cutAt s t c ls xs ks) xs ps ys g → v ≡ getD ys i 0 + g → set ys i v ≡ newRow d
-  new-row-is {k} {c} {i} {g} {v} {ys} a e x y h z = go (bestOf (d .ways)) refl found
+  pub new-row-is : {k : Choice} {g v : ℕ} {ys : List ℕ} → k ≡ lowest (choiceAt ls xs ks) (below (length xs)) → Shorn (cutAt s t (k .cost .0) ls xs ks) xs ps ys g
+      → v ≡ getD ys (k .place) 0 + g → set ys (k .place) v ≡ newRow d
+  new-row-is {k} {g} {v} {ys} e h z = go (bestOf (d .ways)) refl found
     where
-      found : KeyIs fs ls xs ks (cost-top r) 0 (length xs) (bestOf (d .ways)) k
-      found = rw (e, ways-are ls xs ks fs long) (key-best fs ls xs ks (cost-top r) 0 (length xs) (omega (arith, r .few)))
+      found : ChoiceIs fs ls xs ks (cost-top r) 0 (length xs) (bestOf (d .ways)) k
+      found = rw (e, ways-are ls xs ks fs long) (choice-best fs ls xs ks (cost-top r) 0 (length xs))
 
-      go : (o : Best) → bestOf (d .ways) ≡ o → KeyIs fs ls xs ks (cost-top r) 0 (length xs) o k → set ys i v ≡ newRow d
-      go nothing q u = without i q h z
+      go : (o : Best) → bestOf (d .ways) ≡ o → ChoiceIs fs ls xs ks (cost-top r) 0 (length xs) o k → set ys (k .place) v ≡ newRow d
+      go nothing q u = without (k .place) q h z
       go (best f m) q u =
-          let here-is : i ≡ u .place = omega (arith, y, u .key-is, u .high, r .few) in
-          let cost-is : c ≡ m = omega (arith, x, u .key-is, u .high, r .few) in
-          subst (λ (n : ℕ). set ys n v ≡ newRow d) (sym here-is)
-          (with-best (u .place) m (omega (arith, u .high)) (q ∙ ap (λ (n : ℕ). best n m) (u .far-is))
-          (subst (λ (n : ℕ). Shorn (cutAt s t n ls xs ks) xs ps ys g) cost-is h) (z ∙ ap (λ (n : ℕ). getD ys n 0 + g) here-is))
+          with-best (k .place) m (omega (arith, u .inside)) (q ∙ ap (λ (n : ℕ). best n m) (u .far-is))
+          (subst (λ (n : ℕ). Shorn (cutAt s t n ls xs ks) xs ps ys g) (u .cost-is) h) z

@@ -1,15 +1,16 @@
 -- How the code works a row out: place by place, without looking at the far nodes.
-use Prim.Native.Nat.{ℕ, _+_, _-_, _*_, _/_, min, _≤_, _<_}
+use Prim.Native.Nat.{ℕ, _+_, _-_, _*_, _/_, _≤_, _<_}
 use mathlib.Core.Path.{_≡_}
 use mathlib.Core.Bool.{cond, _&&_}
 use mathlib.Core.List.{List, [], _∷_}
 use lib.ListN.{length, getD, set}
-use lib.Dec.{eqb}
+use lib.Dec.{leb, eqb}
 use Rattle.rules.specs.Lists.{total}
 use Rattle.rules.specs.Sheet.{whole, largestDelay}
 use Rattle.rules.specs.Desk.{Way, markTold, cost, cutBy}
 use Rattle.desk.specs.Ways.{wayOf}
 use Rattle.desk.specs.declared.WayHeld.{WayHeld}
+use Rattle.desk.specs.declared.Choice.{Choice}
 
 -- what the code's value says, for a way to far node 0: no leaf asks for the far node
 abbrev pub waySaid : WayHeld → Way
@@ -42,24 +43,20 @@ beyond = 2 * largestDelay
 abbrev pub barrier : Way → ℕ
 barrier w = cond (eqb (w .fraction) 0 && markTold (w .word)) beyond 0
 
--- more places than a row has
-abbrev pub places : ℕ
-places = 1024
+-- cost, place
+abbrev pub choice : ℕ → ℕ → Choice
+choice c p = record { cost = record { 0 = c }; place = p }
 
--- the cost and the place as one number, of which the best has the least: so of equal costs the lowest place
-abbrev pub keyOf : Way → ℕ → ℕ
-keyOf w p = (cost w + barrier w) * places + p
+abbrev pub choiceAt : List ℕ → List ℕ → List ℕ → ℕ → Choice
+choiceAt ls xs ks p = choice (cost (wayAt ls xs ks p) + barrier (wayAt ls xs ks p)) p
 
-abbrev pub keyAt : List ℕ → List ℕ → List ℕ → ℕ → ℕ
-keyAt ls xs ks p = keyOf (wayAt ls xs ks p) p
+abbrev pub lower : Choice → Choice → Choice
+lower a b = cond (leb (a .cost .0) (b .cost .0)) a b
 
--- no place has so great a number
-abbrev pub noKey : ℕ
-noKey = 1099511627776
-
-abbrev pub leastKey : (ℕ → ℕ) → List ℕ → ℕ
-leastKey f [] = noKey
-leastKey f (p ∷ ps) = min (f p) (leastKey f ps)
+-- the first of the least cost; beyond every candidate's where there is none
+abbrev pub lowest : (ℕ → Choice) → List ℕ → Choice
+lowest f [] = choice beyond 0
+lowest f (p ∷ ps) = lower (f p) (lowest f ps)
 
 -- what is cut at a place, the best cost being c; the best's own cut too, which it gains back
 abbrev pub cutAt : ℕ → ℕ → ℕ → List ℕ → List ℕ → List ℕ → ℕ → ℕ

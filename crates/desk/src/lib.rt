@@ -6,7 +6,7 @@ use numbers::Fraction;
 use numbers::Step;
 use numbers::Traffic;
 ghost use mathlib.Core.Path.{_≡_};
-ghost use Prim.Native.Nat.{ℕ, _+_, _-_, _*_, _/_, _%_, min, _≤_, _<_};
+ghost use Prim.Native.Nat.{ℕ, _+_, _-_, _*_, _/_, _≤_, _<_};
 ghost use mathlib.Core.List.{List};
 ghost use lib.Dec.{leb};
 ghost use lib.ListN.{length};
@@ -14,7 +14,7 @@ ghost use Rattle.rules.specs.Lists.{total, exists, below};
 ghost use Rattle.rules.specs.Sheet.{whole, largestStep, largestDelay};
 ghost use Rattle.rules.specs.Desk.{delayTold, markTold, heard, cost, weighed, blocks, message, cutBy, newRow};
 ghost use Rattle.desk.specs.Ways.{toldOf, messageSaid, waysOf, deskWith, Row, Rises};
-ghost use Rattle.desk.specs.Work.{waySaid, Small, wayAt, Held, beyond, barrier, places, keyOf, keyAt, noKey, leastKey, cutAt, Shorn};
+ghost use Rattle.desk.specs.Work.{waySaid, Small, wayAt, Held, beyond, barrier, choice, choiceAt, lower, lowest, cutAt, Shorn};
 
 // What a far node told, as one number: 0 while it is silent; else four times its delay, and 1, and 2 more with the blocked mark.
 pub struct Told(pub u32);
@@ -35,15 +35,13 @@ struct WayHeld {
 // A sum of delays, each counted by a fraction.
 struct DelaySum(u64);
 
-// A link's cost and place as one number: the least is the best.
-struct Key(u64);
+// More than any candidate costs.
+const BEYOND: Delay = Delay(Delay::LARGEST.0 * 2);
 
-// More places than a row has.
-const PLACES: u64 = 1024;
-
-impl Key {
-    // Beyond that of every link.
-    const NONE: Key = Key(1099511627776);
+// A link that may be the best: its cost, with its barrier, and its place.
+struct Choice {
+    cost: Delay,
+    place: usize,
 }
 
 // What a node tells, as its word.
@@ -212,52 +210,48 @@ fn barrier_of(w: WayHeld) -> Delay
     ensures { λ r. ⌜ (r .0 ≡ barrier (waySaid w)) × (r .0 ≤ beyond) ⌝ }
 {
     if (w.fraction.0 == 0) & is_marked(w.word) {
-        Delay(Delay::LARGEST.0 * 2)
+        BEYOND
     } else {
         Delay(0)
     }
 }
 
-fn key_of(w: WayHeld, p: usize) -> Key
-    requires { ⌜ Small w × (p < places) ⌝ }
-    ensures { λ r. ⌜ r .0 ≡ keyOf (waySaid w) p ⌝ }
+fn barred_cost(w: WayHeld) -> Delay
+    requires { ⌜ Small w ⌝ }
+    ensures { λ r. ⌜ r .0 ≡ cost (waySaid w) + barrier (waySaid w) ⌝ }
 {
     let c = cost_of(w);
     let b = barrier_of(w);
-    Key((c.0 as u64 + b.0 as u64) * PLACES + p as u64)
+    Delay(c.0 + b.0)
 }
 
-fn lower_of(a: Key, b: Key) -> Key
-    ensures { λ r. ⌜ r .0 ≡ min (a .0) (b .0) ⌝ }
+// Place p at cost c, or what was chosen behind it: of equal costs the lower place.
+// Cost and place come apart: a choice between two whole structs would go through memory.
+fn better(c: Delay, p: usize, b: Choice) -> Choice
+    ensures { λ r. ⌜ r ≡ lower (choice (c .0) p) b ⌝ }
 {
-    if a.0 <= b.0 { a } else { b }
+    if c.0 <= b.cost.0 {
+        Choice { cost: c, place: p }
+    } else {
+        b
+    }
 }
 
-fn place_of(k: Key) -> usize
-    ensures { λ r. ⌜ r ≡ k .0 % places ⌝ }
+// The row's best way. Two numbers: their least as one is worked out in vectors, which is slower for a row's few links.
+fn row_best(line: &[u32], fraction: &[u32], inbox: &[u32]) -> Choice
+    requires { ⌜ ((p : ℕ) → p < length (now fraction) → Held (now line) (now fraction) (now inbox) p) ⌝ }
+    ensures { λ r. ⌜ r ≡ lowest (choiceAt (now (line .entry)) (now (fraction .entry)) (now (inbox .entry))) (below (length (now (fraction .entry)))) ⌝ }
 {
-    (k.0 % PLACES) as usize
-}
-
-fn cost_in(k: Key) -> Delay
-    requires { ⌜ k .0 ≤ noKey ⌝ }
-    ensures { λ r. ⌜ r .0 ≡ k .0 / places ⌝ }
-{
-    Delay((k.0 / PLACES) as u32)
-}
-
-// The key of the row's best way.
-fn row_best(line: &[u32], fraction: &[u32], inbox: &[u32]) -> Key
-    requires { ⌜ ((p : ℕ) → p < length (now fraction) → Held (now line) (now fraction) (now inbox) p) × (length (now fraction) ≤ 512) ⌝ }
-    ensures { λ r. ⌜ r .0 ≡ leastKey (keyAt (now (line .entry)) (now (fraction .entry)) (now (inbox .entry))) (below (length (now (fraction .entry)))) ⌝ }
-{
-    let mut k = Key::NONE;
+    let mut b = Choice {
+        cost: BEYOND,
+        place: 0,
+    };
     let mut i = fraction.len();
     while 0 < i {
         i -= 1;
-        k = lower_of(key_of(way_at(line, fraction, inbox, i), i), k);
+        b = better(barred_cost(way_at(line, fraction, inbox, i)), i, b);
     }
-    k
+    b
 }
 
 // What is cut from a fraction whose link costs d more than the best.
@@ -330,9 +324,9 @@ pub fn new_row(s: Step, t: Traffic, line: &[u32], inbox: &[u32], flow: &[u16], r
     if row.len() == 0 {
         return;
     }
-    let k = row_best(line, row, inbox);
-    let g = cut_row(s, t, cost_in(k), line, inbox, flow, row);
-    let i = place_of(k);
+    let b = row_best(line, row, inbox);
+    let g = cut_row(s, t, b.cost, line, inbox, flow, row);
+    let i = b.place;
     let f = sum(Fraction(row[i]), g);
     row[i] = f.0;
 }
