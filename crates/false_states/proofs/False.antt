@@ -25,12 +25,13 @@ use Rattle.network.proofs.Rows.{held-length, held-at}
 use Rattle.node.specs.Net.{stateSaid, SmallInbox, Net, RowsRise, Renewed, Lendable}
 use Rattle.node.proofs.Held.{state-length, state-at, turns, lendable, far-rise, outcome-held}
 use Rattle.messages.specs.declared.Tally.{Tally}
+use Rattle.messages.specs.declared.Change.{Change}
 use Rattle.messages.specs.declared.Ran.{Ran}
 use Rattle.messages.specs.declared.Ran.the-variants.{Stopped, Left}
-use Rattle.messages.specs.State.{Kept, LinkAt, Room, Stored, Empty, Begun}
+use Rattle.messages.specs.State.{Kept, LinkAt, Counted, stepOf, Spare, Stored, Empty, Begun}
 use Rattle.messages.specs.Round.{Deliverable, Delivered, ListRun}
 use Rattle.messages.proofs.Beginning.{state-start, begun-kept}
-use Rattle.messages.proofs.Storing.{link-at, room-kept}
+use Rattle.messages.proofs.Storing.{link-at, counted-kept, spare-kept}
 use Rattle.messages.proofs.Delivering.{deliverable}
 use Rattle.messages.proofs.Running.{run-small}
 use Rattle.admit.specs.declared.Opened.{Opened}
@@ -57,8 +58,8 @@ module _ {h : SheetHeld} {tr fs ts ls xs ss os : List ℕ} where
   at-place {inbox} kept k a =
       sym (state-at (h .links) os inbox (getD os k 0) (kept .graph .opposites .low k a) ∙ ap (λ (x : ℕ). toldOf (getD inbox x 0)) (turns (kept .graph) k a))
 
-  module _ {j w : ℕ} {inbox qs inbox' qs' : List ℕ} {t t' : Tally} (kept : Kept h tr fs ts ls xs ss os inbox qs t) (inside : j < h .links) (put : Stored j w fs xs os inbox qs inbox' qs' t t') where
-    kept-now : Kept h tr fs ts ls xs ss os inbox' qs' t'
+  module _ {j w : ℕ} {inbox qs inbox' qs' : List ℕ} {t : Tally} {c : Change} (kept : Kept h tr fs ts ls xs ss os inbox qs t) (inside : j < h .links) (put : Stored j w fs xs os inbox qs inbox' qs' c) where
+    kept-now : Kept h tr fs ts ls xs ss os inbox' qs' (stepOf t c)
     kept-now = put .keeps kept inside
 
     stored-small : Word w → SmallInbox inbox → SmallInbox inbox'
@@ -98,12 +99,15 @@ module _ {j w k : ℕ} {h : SheetHeld} {tr fs ss gs ps line xs os inbox qs₀ : 
   abbrev net : Net h tr fs (asked .held .ts) (asked .held .ls) xs ss gs ps os line
   net = asked .held .net
 
-  pub storable : LinkAt j fs xs os inbox qs × Room j fs xs os inbox qs t × (0 < w)
-  storable = (link-at (begun-now net) (asked .stored), room-kept (begun-now net) (asked .stored), asked .word .heard)
+  pub storable : LinkAt j fs xs os inbox qs × Counted j fs xs os inbox qs × (0 < w)
+  storable = (link-at (begun-now net) (asked .stored), counted-kept (begun-now net) (asked .stored), asked .word .heard)
 
-  module _ {inbox' qs' : List ℕ} {t' : Tally} (put : Stored j w fs xs os inbox qs inbox' qs' t t') where
+  pub steppable : Spare t
+  steppable = spare-kept (begun-now net)
+
+  module _ {inbox' qs' : List ℕ} {t' : Tally} {c : Change} (put : Stored j w fs xs os inbox qs inbox' qs' c) (step : t' ≡ stepOf t c) where
     false-now : {ts ls : List ℕ} → Net h tr fs ts ls xs ss gs ps os line → Kept h tr fs ts ls xs ss os inbox' qs' t'
-    false-now n = put .keeps (begun-now n) (asked .stored)
+    false-now n = rw step (put .keeps (begun-now n) (asked .stored))
 
     pub sendable : Deliverable (h .head .step .0) k tr fs ss gs ps line xs os inbox' qs' t'
     sendable = deliverable net (false-now net) (asked .sent) (stored-small (begun-now net) (asked .stored) put (asked .word) (empty-small (asked .empty)))
@@ -148,10 +152,10 @@ module _ {j w : ℕ} {h : SheetHeld} {tr fs ss gs ps line xs os inbox₀ qs₀ :
     abbrev its : Net h tr fs (asked .held .ts) (asked .held .ls) xs ss gs ps os line
     its = asked .held .net
 
-    pub storable-left : LinkAt j fs xs os inbox qs × Room j fs xs os inbox qs t × (0 < w)
-    storable-left = (link-at (kept-left its) (asked .stored), room-kept (kept-left its) (asked .stored), asked .word .heard)
+    pub storable-left : LinkAt j fs xs os inbox qs × Counted j fs xs os inbox qs × (0 < w)
+    storable-left = (link-at (kept-left its) (asked .stored), counted-kept (kept-left its) (asked .stored), asked .word .heard)
 
-    module _ {inbox' qs' : List ℕ} {t' : Tally} (put : Stored j w fs xs os inbox qs inbox' qs' t t') where
+    module _ {inbox' qs' : List ℕ} {c : Change} (put : Stored j w fs xs os inbox qs inbox' qs' c) where
       size-now : length inbox' ≡ 512
       size-now = put .keeps (kept-left its) (asked .stored) .inbox-size
 

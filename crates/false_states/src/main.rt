@@ -66,11 +66,11 @@ fn sent_after(
     ensures { λ r. ⌜ Sent (r .0) j (w .0) k h (now (traffic .entry)) (now (from .entry)) (now (starts .entry)) (now («flow_starts» .entry)) (now (flow .entry)) (now (line .entry)) (now (fraction .entry)) (now (opposite .entry)) ⌝ }
 {
     let begun = messages::begin(h.head.nodes, starts, flow_starts, quiet);
-    let stored = messages::store(j, w, begun, from, fraction, opposite, inbox, quiet);
-    messages::deliver(
+    let change = messages::store(j, w, from, fraction, opposite, inbox, quiet);
+    messages::deliver_once(
         h,
         k,
-        stored,
+        messages::stepped(begun, change),
         traffic,
         from,
         starts,
@@ -123,8 +123,8 @@ fn take_after(
         Ran::Stopped(_, _) => {
             return false;
         }
-        Ran::Left(t) => {
-            messages::store(j, w, t, from, fraction, opposite, inbox, quiet);
+        Ran::Left(_) => {
+            messages::store(j, w, from, fraction, opposite, inbox, quiet);
             node::take_rows(
                 h.head.step,
                 h.head.nodes,

@@ -90,7 +90,7 @@ fn change_of(q: Quiet) -> Change
 }
 
 // The tally after a change.
-fn stepped(t: Tally, change: Change) -> Tally
+pub fn stepped(t: Tally, change: Change) -> Tally
     requires { ⌜ Spare t ⌝ }
     ensures { λ r. ⌜ r ≡ stepOf t change ⌝ }
 {
@@ -218,6 +218,44 @@ pub fn deliver(
     );
     let change = store(j, desk::told_by(m), from, fraction, opposite, inbox, quiet);
     amend(t, change);
+}
+
+// One delivery, for a caller that holds the tally by value. Such a caller lends none, so Rattle derives it.
+pub fn deliver_once(
+    h: SheetHeld,
+    j: usize,
+    t: Tally,
+    traffic: &[u32],
+    from: &[u8],
+    starts: &[u16],
+    flow_starts: &[u16],
+    flow: &[u16],
+    line: &[u32],
+    fraction: &[u32],
+    opposite: &[u16],
+    inbox: &mut [u32],
+    quiet: &mut [u32],
+) -> Tally
+    requires { ⌜ Deliverable (h .head .step .0) j (now traffic) (now from) (now starts) (now «flow_starts») (now flow) (now line) (now fraction) (now opposite) (now inbox) (now quiet) t ⌝ }
+    ensures { λ r. ⌜ Delivered h j (now (traffic .entry)) (now (from .entry)) (now (starts .entry)) (now («flow_starts» .entry)) (now (flow .entry)) (now (line .entry)) (now (fraction .entry)) (now (opposite .entry)) (now (inbox .entry)) (now (quiet .entry)) (now (inbox .exit)) (now (quiet .exit)) t r ⌝ }
+{
+    let mut tally = t;
+    deliver(
+        h,
+        j,
+        &mut tally,
+        traffic,
+        from,
+        starts,
+        flow_starts,
+        flow,
+        line,
+        fraction,
+        opposite,
+        inbox,
+        quiet,
+    );
+    tally
 }
 
 // Stopped with a refusal's number and place, or the tally of the state that is left.

@@ -1,5 +1,5 @@
 use borrow.Author.Needs.{needs}
-use Rattle.false_states.proofs.False.{storable, sendable, placed, sent}
+use Rattle.false_states.proofs.False.{storable, steppable, sendable, placed, sent}
 use Rattle.false_states.proofs.sent_after.Statement.{statement}
 use Rattle.false_states.proofs.sent_after.Tie as tie
 
@@ -9,11 +9,14 @@ begin-requires c κs = search needs
 store-requires : tie.Need-store-requires
 store-requires c κs = storable (c .before .before .before .before .before .before .before .before .before .before .before .before .before .before .before .before .pre) (c .before .before .before .before .begin .ensures)
 
-deliver-requires : tie.Need-deliver-requires
-deliver-requires c κs = sendable (c .before .before .before .before .before .before .before .before .before .before .before .before .before .before .before .before .before .before .before .before .before .before .before .pre) (c .before .before .before .before .before .before .before .before .before .before .before .begin .ensures) (c .before .before .before .before .before .before .store .ensures)
+stepped-requires : tie.Need-stepped-requires
+stepped-requires c κs = steppable (c .before .before .before .before .before .before .before .before .before .before .before .before .before .before .before .before .before .before .before .before .before .pre) (c .before .before .before .before .before .before .before .before .before .begin .ensures)
+
+deliver-once-requires : tie.Need-deliver-once-requires
+deliver-once-requires c κs = sendable (c .before .before .before .before .before .before .before .before .before .before .before .before .before .before .before .before .before .before .before .before .before .before .before .before .pre) (c .before .before .before .before .before .before .before .before .before .before .before .before .begin .ensures) (c .before .before .before .before .before .before .before .store .ensures) (c .before .before .stepped .ensures)
 
 word-on-requires : tie.Need-word-on-requires
-word-on-requires c κs = placed (c .before .before .before .before .before .before .before .before .before .before .before .before .before .before .before .before .before .before .before .before .before .before .before .before .before .before .before .before .before .pre) (c .before .before .before .before .before .before .before .before .before .before .before .before .before .before .before .before .before .begin .ensures) (c .before .before .before .before .before .before .before .before .before .before .before .before .store .ensures) (c .before .before .before .before .before .deliver .ensures)
+word-on-requires c κs = placed (c .before .before .before .before .before .before .before .before .before .before .before .before .before .before .before .before .before .before .before .before .before .before .before .before .before .before .before .before .before .before .pre) (c .before .before .before .before .before .before .before .before .before .before .before .before .before .before .before .before .before .before .begin .ensures) (c .before .before .before .before .before .before .before .before .before .before .before .before .before .store .ensures) (c .before .before .before .before .before .before .before .before .stepped .ensures) (c .before .before .before .before .before .deliver-once .ensures)
 
 same-length : tie.Need-same-length
 same-length c = search needs
@@ -22,7 +25,7 @@ same-length-2 : tie.Need-same-length-2
 same-length-2 c = search needs
 
 returns : tie.Need-returns
-returns c = sent (c .before .before .before .before .before .before .before .before .before .before .before .before .before .before .before .before .before .before .before .before .before .before .before .before .before .before .before .before .before .before .pre) (c .before .before .before .before .before .before .before .before .before .before .before .before .before .before .before .before .before .before .begin .ensures) (c .before .before .before .before .before .before .before .before .before .before .before .before .before .store .ensures) (c .before .before .before .before .before .before .deliver .ensures) (c .word-on .ensures)
+returns c = sent (c .before .before .before .before .before .before .before .before .before .before .before .before .before .before .before .before .before .before .before .before .before .before .before .before .before .before .before .before .before .before .before .pre) (c .before .before .before .before .before .before .before .before .before .before .before .before .before .before .before .before .before .before .before .begin .ensures) (c .before .before .before .before .before .before .before .before .before .before .before .before .before .before .store .ensures) (c .before .before .before .before .before .before .before .before .before .stepped .ensures) (c .before .before .before .before .before .before .deliver-once .ensures) (c .word-on .ensures)
 
 pub sent-after-spec : {M : Type 1} → statement M
 sent-after-spec =
@@ -30,7 +33,8 @@ sent-after-spec =
     (tie.spec
     begin-requires
     store-requires
-    deliver-requires
+    stepped-requires
+    deliver-once-requires
     word-on-requires
     same-length
     same-length-2
