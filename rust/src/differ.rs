@@ -368,7 +368,7 @@ fn words(answer: Answer) -> String {
 }
 
 /// Hex digits; the end of a very long sheet is left out, the seed brings it back.
-fn hex(bytes: &[u8]) -> String {
+pub fn hex(bytes: &[u8]) -> String {
     const MOST: usize = 10_000;
     let mut text: String = bytes.iter().take(MOST).map(|byte| format!("{byte:02x}")).collect();
     if bytes.len() > MOST {

@@ -1,36 +1,13 @@
 //! Runs the programs that `rt check` builds, as a teacher does: on the plates, and on sheets that are refused.
 
+mod common;
+
+use common::{printed, program, root};
 use hjerringsel::plates::plate_a;
 use std::fs;
-use std::io::Write;
-use std::path::{Path, PathBuf};
-use std::process::{Command, Stdio};
+use std::path::Path;
 
 const PLATES: [&str; 5] = ["plate_a", "plate_a_still", "plate_b", "plate_b_257", "plate_a_looped"];
-
-fn root() -> PathBuf {
-    Path::new(env!("CARGO_MANIFEST_DIR")).join("..").canonicalize().expect("the project's root")
-}
-
-fn program(name: &str) -> Command {
-    let path = root().join("target").join("bin").join(name);
-    assert!(path.is_file(), "{} is missing: run rt check {name} first", path.display());
-    Command::new(path)
-}
-
-/// What a program prints when these bytes are its standard input.
-fn printed(name: &str, input: &[u8]) -> String {
-    let mut child = program(name)
-        .stdin(Stdio::piped())
-        .stdout(Stdio::piped())
-        .spawn()
-        .unwrap_or_else(|error| panic!("{name} cannot be run: {error}"));
-    // A program may stop reading before the end; what counts is what it prints.
-    let _ = child.stdin.take().expect("piped").write_all(input);
-    let run = child.wait_with_output().expect("the program ends");
-    assert!(run.status.success(), "{name} answers {}", run.status);
-    String::from_utf8(run.stdout).expect("text")
-}
 
 fn plate(name: &str, kind: &str) -> Vec<u8> {
     let path = root().join("plates").join(format!("{name}.{kind}"));

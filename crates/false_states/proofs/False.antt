@@ -5,8 +5,8 @@ use native.Mathlib.Decide.{ℕ-discrete, decLt}
 use mathlib.Core.Path.{_≡_, refl, sym, ap, ap₂, subst, _∙_}
 use mathlib.Core.Bool.{Bool, true, false}
 use mathlib.Core.List.{List, [], _∷_}
-use lib.ListN.{length, getD, set, take, replicate}
-use lib.Seq.{getD-set-same, getD-set-other}
+use lib.ListN.{length, getD, set, take, drop, replicate}
+use lib.Seq.{getD-set-same, getD-set-other, take-at}
 use lib.Dec.{eqb}
 use borrow.Author.Tests.{eqb-true}
 use Rattle.rules.specs.Sheet.{Link, Sheet, largestStep}
@@ -14,11 +14,12 @@ use Rattle.rules.specs.Bytes.{bytes}
 use Rattle.rules.specs.Judge.{refused, accepted}
 use Rattle.rules.specs.Check.{check}
 use Rattle.rules.specs.Desk.{Told, silent, told, delayTold}
-use Rattle.rules.specs.Messages.{State, start, linkOf, deliver, stopped, left, run, outcome}
+use Rattle.rules.specs.Messages.{State, linkOf, deliver, stopped, left, run, outcome, house}
 use Rattle.rules.specs.Plates.{plateA}
-use Rattle.rules.proofs.Demands.{sound-accepted, plateA-sound}
+use Rattle.rules.proofs.Demands.{sound-accepted, plateA-sound, house-order}
 use Rattle.numbers.specs.Lines.{LinesOf}
-use Rattle.desk.specs.Ways.{toldOf}
+use Rattle.desk.specs.declared.Message.{Message}
+use Rattle.desk.specs.Ways.{toldOf, messageSaid}
 use Rattle.sheet.specs.declared.SheetHeld.{SheetHeld}
 use Rattle.sheet.specs.Held.{sheetSaid}
 use Rattle.network.proofs.Rows.{held-length, held-at}
@@ -34,14 +35,15 @@ use Rattle.messages.proofs.Beginning.{state-start, begun-kept}
 use Rattle.messages.proofs.Storing.{link-at, counted-kept, spare-kept}
 use Rattle.messages.proofs.Delivering.{deliverable}
 use Rattle.messages.proofs.Running.{run-small}
+use Rattle.house.specs.House.{GraphHeld, HouseWritten}
 use Rattle.admit.specs.declared.Opened.{Opened}
 use Rattle.admit.specs.Opened.{openedSaid, OpenedGiven, Ready, readyIf}
 use Rattle.admit.proofs.Lines.{net-ready}
 use Rattle.play.specs.Played.{AnyAccepted}
 use Rattle.play.proofs.Playing.{nothing, lined-net}
-use Rattle.false_states.specs.declared.Case.{Case}
+use Rattle.false_states.specs.declared.Question.{Question}
 use Rattle.false_states.specs.declared.Follows.{Follows}
-use Rattle.false_states.specs.False.{Placed, Word, SentAsked, Sent, RowsAsked, RowsTaken, sentBy, rowBy, everything, houseList, SentWith, TakenWith, Followed}
+use Rattle.false_states.specs.False.{carriedBy, takenBy, Placed, Word, SentAsked, Sent, RowsAsked, RowsTaken, SentWith, TakenWith, wordSaid, FollowedBy, Followed, sentBy, rowBy, everything}
 
 told-delay : (x : ℕ) → delayTold (toldOf x) ≡ x / 4
 told-delay x = go (eqb x 0) refl
@@ -179,88 +181,125 @@ module _ {j w : ℕ} {h : SheetHeld} {tr fs ss gs ps line xs os inbox₀ qs₀ :
           unleft e = cc
 
 -- ---- over an accepted sheet
-module _ {h : SheetHeld} {tr fs ls xs ss gs ps os line : List ℕ} (lines : LinesOf (take (h .links) ls) (replicate 512 0) line) {d w : ℕ} where
-  pub sent-asked : {qs : List ℕ} → AnyAccepted h tr fs ls xs ss gs ps os → 5 < h .links → d ≤ 63 * 1048576 → w / 4 ≡ d → 0 < w → length qs ≡ 64
-      → SentAsked 0 w 3 h tr fs ss gs ps line xs os (replicate 512 0) qs
-  sent-asked some six top same word z = record {
+pub graph-held : {h : SheetHeld} {tr fs ls xs ss gs ps os : List ℕ} → AnyAccepted h tr fs ls xs ss gs ps os → GraphHeld h fs ss gs xs os
+graph-held {h} {tr} {fs} {ls} {xs} {ss} {gs} {ps} some = let ready = some .1 .ready in record {
+  tr = tr;
+  ts = some .1 .ts;
+  ls = ls;
+  ps = ps;
+  graph = ready .graph;
+  flow = ready .flow;
+  flow-start-size = ready .room .flow-starts;
+  flow-size = ready .room .flow;
+}
+
+module _ {h : SheetHeld} {tr fs ls xs ss gs ps os line : List ℕ} (lines : LinesOf (take (h .links) ls) (replicate 512 0) line) {j w : ℕ} where
+  pub rows-asked : {d : ℕ} {qs : List ℕ} → AnyAccepted h tr fs ls xs ss gs ps os → j < h .links → d ≤ 63 * 1048576 → w / 4 ≡ d → 0 < w → length qs ≡ 64
+      → RowsAsked j w h tr fs ss gs ps line xs os (replicate 512 0) qs
+  rows-asked some inside top same word z = record {
     held = lined-net nothing lines some;
     empty = nothing;
     counts = z;
     word = record { heard = word; small = omega arith };
-    stored = omega arith;
-    sent = omega arith;
+    stored = inside;
   }
 
-  pub rows-asked : {qs : List ℕ} → AnyAccepted h tr fs ls xs ss gs ps os → 5 < h .links → d ≤ 63 * 1048576 → w / 4 ≡ d → 0 < w → length qs ≡ 64
-      → RowsAsked 5 w h tr fs ss gs ps line xs os (replicate 512 0) qs
-  rows-asked some six top same word z = record {
+  pub sent-asked : {k d : ℕ} {qs : List ℕ} → AnyAccepted h tr fs ls xs ss gs ps os → j < h .links → k < h .links → d ≤ 63 * 1048576 → w / 4 ≡ d → 0 < w → length qs ≡ 64
+      → SentAsked j w k h tr fs ss gs ps line xs os (replicate 512 0) qs
+  sent-asked some inside sends top same word z = record {
     held = lined-net nothing lines some;
     empty = nothing;
     counts = z;
     word = record { heard = word; small = omega arith };
-    stored = omega arith;
+    stored = inside;
+    sent = sends;
   }
 
-  module _ (word : toldOf w ≡ told d false) where
-    pub sent-with : {r : ℕ} → Sent r 0 w 3 h tr fs ss gs ps line xs os → SentWith r d h tr fs ls xs ss gs ps os
-    sent-with sends = record {
+  module _ {m : Message} (word : toldOf w ≡ messageSaid m) where
+    pub sent-with : {k r : ℕ} → Sent r j w k h tr fs ss gs ps line xs os → SentWith r j m k h tr fs ls xs ss gs ps os
+    sent-with {k = k} sends = record {
       said = λ {b} {ts} ready.
-          sends .said (net-ready ready lines (nothing .size) (nothing .silence))
-          ∙ ap (λ (x : Told). getD (deliver (sheetSaid h tr fs ts ls xs) (set (start (sheetSaid h tr fs ts ls xs)) 0 x) 3) 3 silent) word;
+          sends .said (net-ready ready lines (nothing .size) (nothing .silence)) ∙ ap (λ (x : Told). carriedBy (sheetSaid h tr fs ts ls xs) j x k) word;
     }
 
-    -- the list ran, and the rows were taken
-    pub taken-with : {r : Bool} {ys : List ℕ} → 5 < h .links → RowsTaken r houseList 5 w h tr fs ss gs ps line os xs ys
-        → TakenWith (Follows.Taken (record { direct = record { 0 = getD ys 2 0 }; over = record { 0 = getD ys 3 0 } })) d h tr fs ls xs ss gs ps os
-    taken-with {r} {ys} six takes = record {
+    -- the front of the list that was delivered is the house order
+    pub taken-with : {r : Bool} {zeros list ys : List ℕ} → HouseWritten h fs ss xs os zeros list → RowsTaken r (take (h .links) list) j w h tr fs ss gs ps line os xs ys
+        → TakenWith r j m h tr fs ls xs ss gs ps os ys
+    taken-with {zeros = zeros} {list = list} written takes = record {
       said = λ {b} {ts} ready st q.
           let s : Sheet = sheetSaid h tr fs ts ls xs in
-          let e = takes .said (net-ready ready lines (nothing .size) (nothing .silence)) st q .1 ∙ ap (λ (x : Told). outcome s (set st 5 x)) word in
-          ap₂ (λ (x y : ℕ). x ∷ y ∷ [])
-          (ap (λ (l : Link). l .fraction) (sym (held-at (h .links) fs ts ls ys 2 (omega arith))) ∙ ap (λ (t : Sheet). linkOf t 2 .fraction) e)
-          (ap (λ (l : Link). l .fraction) (sym (held-at (h .links) fs ts ls ys 3 (omega arith))) ∙ ap (λ (t : Sheet). linkOf t 3 .fraction) e);
+          let long : length (house s) ≡ h .links = house-order s (ready .graph .sound) .1 ∙ held-length (h .links) fs ts ls xs in
+          let front : take (h .links) list ≡ house s = ap (take (h .links)) (written .said (ready .graph)) ∙ take-at (house s) (drop (h .links) zeros) (h .links) long in
+          let done = takes .said (net-ready ready lines (nothing .size) (nothing .silence)) st (ap (run s) front ∙ q) in
+          (done .0, done .1 ∙ ap (takenBy s st j) word);
     }
 
-    pub not-taken : {r : Bool} {ys : List ℕ} → r ≡ false → RowsTaken r houseList 5 w h tr fs ss gs ps line os xs ys → TakenWith Follows.Nothing d h tr fs ls xs ss gs ps os
-    not-taken e takes = record {
-      said = λ ready st q. absurd (apart (sym e ∙ takes .said (net-ready ready lines (nothing .size) (nothing .silence)) st q .0));
-    }
+-- ---- of a sheet's bytes
+module _ {b tr fs ts ls xs ss gs ps os ord turn : List ℕ} {o : Opened} (given : OpenedGiven o b tr fs ts ls xs ss gs ps os ord turn) where
+  pub followed-refused : {q : Question} {j : ℕ} {m : Message} {r : Follows} {ys : List ℕ} {n p : ℕ} → o ≡ Opened.Refused n p → Followed q b j m r ys
+  followed-refused e = record { said = λ s a. absurd (apart (sym (ap (λ (x : Opened). openedSaid x tr fs ts ls xs) e) ∙ given .said ∙ a)) }
+    where
+      apart : {n p : ℕ} {s : Sheet} → refused n p ≡ accepted s → ⊥
+      apart e = let z : _≡_ {A = ℕ} 0 1 = cc in omega arith
+
+  module _ {h : SheetHeld} (e : o ≡ Opened.Accepted h) where
+    pub is-ready : Ready h b tr fs ts ls xs ss gs ps os ord turn
+    is-ready = subst (λ (x : Opened). readyIf x b tr fs ts ls xs ss gs ps os ord turn) e (given .ready)
+
+    is-sheet : (s : Sheet) → check b ≡ accepted s → sheetSaid h tr fs ts ls xs ≡ s
+    is-sheet s a = inside (sym (ap (λ (x : Opened). openedSaid x tr fs ts ls xs) e) ∙ given .said ∙ a)
+      where
+        inside : {s t : Sheet} → accepted s ≡ accepted t → s ≡ t
+        inside e = cc
+
+    module _ {q : Question} {j : ℕ} {m : Message} {r : Follows} {ys : List ℕ} where
+      -- what holds of the sheet that the slices hold
+      followed-by : {p : Question} → q ≡ p → (j < h .links → FollowedBy p (sheetSaid h tr fs ts ls xs) j (messageSaid m) r ys) → Followed q b j m r ys
+      followed-by asks f = record {
+        said = λ s a.
+            subst (λ (t : Sheet). j < length (t .links) → FollowedBy q t j (messageSaid m) r ys) (is-sheet s a) (λ low.
+            subst (λ (x : Question). FollowedBy x (sheetSaid h tr fs ts ls xs) j (messageSaid m) r ys) (sym asks) (f (omega (arith, held-length (h .links) fs ts ls xs))));
+      }
+
+      pub followed-outside : h .links ≤ j → Followed q b j m r ys
+      followed-outside out = followed-by refl (λ low. absurd (omega arith))
+
+      pub followed-nowhere : {k : ℕ} → q ≡ Question.Carries k → h .links ≤ k → Followed q b j m r ys
+      followed-nowhere asks out = followed-by asks (λ low sends. absurd (omega (arith, held-length (h .links) fs ts ls xs)))
+
+    module _ {q : Question} {j : ℕ} {m : Message} {ys : List ℕ} where
+      pub followed-word : {k w : ℕ} → q ≡ Question.Carries k → SentWith w j m k h tr fs ls xs ss gs ps os → Followed q b j m (Follows.Carried (record { 0 = w })) ys
+      followed-word asks sends = followed-by asks (λ low inside. sends .said is-ready)
+
+      pub followed-rows : {all : Bool} → q ≡ Question.Rows → TakenWith all j m h tr fs ls xs ss gs ps os ys → Followed q b j m (Follows.Taken (h .links)) ys
+      followed-rows asks takes = followed-by asks (λ low st ran. (
+        ap Follows.Taken (sym (held-length (h .links) fs ts ls xs)),
+        λ i inside.
+            ap (λ (l : Link). l .fraction) (sym (held-at (h .links) fs ts ls ys i (omega (arith, held-length (h .links) fs ts ls xs))))
+            ∙ ap (λ (t : Sheet). linkOf t i .fraction) (takes .said is-ready st ran .1),
+      ))
+
+    -- the house order runs
+    pub never-stopped : {X : Type 0} {all : Bool} {j : ℕ} {m : Message} {ys : List ℕ} → all ≡ false → TakenWith all j m h tr fs ls xs ss gs ps os ys → X
+    never-stopped broken takes =
+        let done = house-order (sheetSaid h tr fs ts ls xs) (is-ready .graph .sound) in absurd (apart (sym broken ∙ takes .said is-ready (done .0) (done .2) .0))
       where
         apart : false ≡ true → ⊥
         apart e = let z : _≡_ {A = ℕ} 0 1 = cc in omega arith
 
 -- ---- plate A
-module _ {b tr fs ts ls xs ss gs ps os ord turn : List ℕ} {r : Opened} (stand : b ≡ bytes plateA) (given : OpenedGiven r b tr fs ts ls xs ss gs ps os ord turn) where
-  is-accepted : openedSaid r tr fs ts ls xs ≡ accepted plateA
-  is-accepted = given .said ∙ ap check stand ∙ sound-accepted plateA plateA-sound
+plate-accepted : check (bytes plateA) ≡ accepted plateA
+plate-accepted = sound-accepted plateA plateA-sound
 
-  pub never-refused : {X : Type 0} {n p : ℕ} → r ≡ Opened.Refused n p → X
-  never-refused e = absurd (apart (sym (ap (λ (x : Opened). openedSaid x tr fs ts ls xs) e) ∙ is-accepted))
-    where
-      apart : {n p : ℕ} {s : Sheet} → refused n p ≡ accepted s → ⊥
-      apart e = let z : _≡_ {A = ℕ} 0 1 = cc in omega arith
+module _ {d : ℕ} {f : Follows} {ys : List ℕ} where
+  pub plate-word : {t : Told} → t ≡ wordSaid f → Followed (Question.Carries 3) (bytes plateA) 0 (record { delay = record { 0 = d }; blocked = false }) f ys → t ≡ sentBy plateA d
+  plate-word e follows = e ∙ follows .said plateA plate-accepted (omega arith) (omega arith)
 
-  module _ {h : SheetHeld} (e : r ≡ Opened.Accepted h) where
-    pub is-ready : Ready h b tr fs ts ls xs ss gs ps os ord turn
-    is-ready = subst (λ (x : Opened). readyIf x b tr fs ts ls xs ss gs ps os ord turn) e (given .ready)
-
-    is-plate : sheetSaid h tr fs ts ls xs ≡ plateA
-    is-plate = inside (sym (ap (λ (x : Opened). openedSaid x tr fs ts ls xs) e) ∙ is-accepted)
-      where
-        inside : {s t : Sheet} → accepted s ≡ accepted t → s ≡ t
-        inside e = cc
-
-    pub six-links : 5 < h .links
-    six-links = omega (arith, held-length (h .links) fs ts ls xs, ap (λ (s : Sheet). length (s .links)) is-plate)
-
-    pub followed-first : {c : Case} {w d : ℕ} → c ≡ Case.OnFirst → SentWith w d h tr fs ls xs ss gs ps os → Followed c d (Follows.Carried (record { 0 = w }))
-    followed-first {w = w} {d = d} q sends =
-        subst (λ (x : Case). Followed x d (Follows.Carried (record { 0 = w }))) (sym q) (sends .said is-ready ∙ ap (λ (s : Sheet). sentBy s d) is-plate)
-
-    pub followed-last : {c : Case} {f : Follows} {d : ℕ} → c ≡ Case.OnLast → TakenWith f d h tr fs ls xs ss gs ps os → Followed c d f
-    followed-last {f = f} {d = d} q takes =
-        subst (λ (x : Case). Followed x d f) (sym q)
-        (takes .said is-ready (everything plateA) (ap (λ (s : Sheet). run s houseList) is-plate ∙ refl) ∙ ap (λ (s : Sheet). rowBy s (everything plateA) d) is-plate)
+  pub plate-row : Followed Question.Rows (bytes plateA) 5 (record { delay = record { 0 = d }; blocked = false }) f ys
+      → (getD ys 2 0 ∷ getD ys 3 0 ∷ []) ≡ rowBy plateA (everything plateA) d
+  plate-row follows =
+      let each = follows .said plateA plate-accepted (omega arith) (everything plateA) refl .1 in
+      ap₂ (λ (x y : ℕ). x ∷ y ∷ []) (each 2 (omega arith)) (each 3 (omega arith))
 
 -- ---- document 01's figures, and the true ones beside them
 pub figures-sent : (sentBy plateA 100 ≡ told 356 false) × (sentBy plateA 0 ≡ told 256 false)

@@ -82,9 +82,6 @@ pub const BYTES: [u8; 74] = [
     9,
 ];
 
-// Its house order.
-pub const HOUSE: [u16; 6] = [0, 1, 3, 4, 5, 2];
-
 // The numbers of links (0,1), (1,0), (1,2) and (2,1).
 pub const LINK_01: usize = 0;
 

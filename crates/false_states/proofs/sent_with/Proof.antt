@@ -27,7 +27,7 @@ slice-aggregate-sent-after-3 : tie.Need-slice-aggregate-sent-after-3
 slice-aggregate-sent-after-3 c = search needs
 
 sent-after-requires : tie.Need-sent-after-requires
-sent-after-requires c κs = sent-asked (c .before .before .before .before .before .write-line-delays .ensures) (c .before .before .before .before .before .before .before .before .before .before .before .before .before .before .before .before .pre .0) (c .before .before .before .before .before .before .before .before .before .before .before .before .before .before .before .before .pre .1) (c .before .before .before .before .before .before .before .before .before .before .before .before .before .before .before .before .pre .2) (c .before .before .before .told-by .ensures .1) (c .before .before .before .told-by .ensures .2) refl
+sent-after-requires c κs = sent-asked (c .before .before .before .before .before .write-line-delays .ensures) (c .before .before .before .before .before .before .before .before .before .before .before .before .before .before .before .before .pre .0) (c .before .before .before .before .before .before .before .before .before .before .before .before .before .before .before .before .pre .1) (c .before .before .before .before .before .before .before .before .before .before .before .before .before .before .before .before .pre .2) (c .before .before .before .before .before .before .before .before .before .before .before .before .before .before .before .before .pre .3) (c .before .before .before .told-by .ensures .1) (c .before .before .before .told-by .ensures .2) refl
 
 returns : tie.Need-returns
 returns c = sent-with (c .before .before .before .before .before .before .before .before .write-line-delays .ensures) (c .before .before .before .before .before .before .told-by .ensures .0) (c .before .before .sent-after .ensures)
