@@ -1,5 +1,5 @@
 -- The paper's number and place for every case of an answer, and the one number that the C interface gives.
-use Prim.Native.Nat.{ℕ, _+_, _*_, _%_}
+use Prim.Native.Nat.{ℕ, _+_, _*_}
 use mathlib.Core.List.{List}
 use mathlib.Core.Path.{_≡_}
 use Rattle.rules.specs.Calls.{Reply, refusal, answer, over}
@@ -61,9 +61,9 @@ pub record Answered (r : Answer) (reply : Reply) (old new : List ℕ) : Type 0 w
   pub says : told r ≡ numbers reply
   pub writes : new ≡ over reply old
 
--- as one number of 64 bits
+-- as one number of 64 bits: number × 2^32 + value
 abbrev pub packed : Numbers → ℕ
-packed x = x .number * 4294967296 + x .value % 4294967296
+packed x = x .number * 4294967296 + x .value
 
 -- what an exported call gives, and writes
 pub record Exported (r : ℕ) (reply : Reply) (old new : List ℕ) : Type 0 where

@@ -1,6 +1,6 @@
 // What a call answers: a case for each number of document 01's table.
 ghost use mathlib.Core.Path.{_≡_};
-ghost use Prim.Native.Nat.{_≤_};
+ghost use Prim.Native.Nat.{_≤_, _<_};
 ghost use Rattle.answers.specs.Answers.{numberOf, placeOf, both, told, packed};
 
 // Each with its place.
@@ -110,12 +110,13 @@ pub fn place_of(r: Refusal) -> u64
     }
 }
 
-// As one number, for C: number × 2^32 + value.
+// As one number, for C: number × 2^32 + value. The value fits its half.
 pub fn packed_of(a: Answer) -> u64
+    requires { ⌜ told a .value < 4294967296 ⌝ }
     ensures { λ r. ⌜ r ≡ packed (told a) ⌝ }
 {
     match a {
-        Answer::Done(n) => (n as u64) % 4294967296,
-        Answer::Refused(r) => number_of(r) * 4294967296 + place_of(r) % 4294967296,
+        Answer::Done(n) => n as u64,
+        Answer::Refused(r) => number_of(r) * 4294967296 + place_of(r),
     }
 }

@@ -40,6 +40,7 @@ use Rattle.rules.proofs.Start.{sink-starts, other-starts}
 use Rattle.rules.proofs.Run.{run-right, run-count, run-size, outcome-done, finished-done, house-complete, house-lowest, play-complete}
 use Rattle.rules.proofs.Buffer.{over-refused, over-written, over-beyond, over-length}
 use Rattle.rules.proofs.Replies.{NoLinkAt, NotWaitingAt, EndsEarly, stops-12-iff, stops-10-iff, check-refusal-iff, next-laws, house-laws, play-laws, frame-laws, play-12-iff, play-10-iff, play-11-iff, frame-12-iff, frame-10-iff, frame-not-11}
+use Rattle.rules.proofs.Values.{valueOf, check-small, next-small, house-small, play-small, frame-small}
 use Rattle.rules.proofs.Fields.{fractionAt, InFraction, withFractions, bytes-alike, fraction-stands, next-bytes, next-fraction}
 use Rattle.rules.proofs.Alike.{HeardInto, HeardAlike, waits-alike, frame-alike, state-alike, run-heard, same-entries}
 use Rattle.rules.proofs.Tally.{delivered-law, finished-law, finished-waits, frame-right, frames-length}
@@ -480,6 +481,22 @@ module _ (b : List ℕ) where
 
   pub frame-numbers : (js : List ℕ) (have n p : ℕ) → frameReply b js have ≡ refusal n p → (1 ≤ n) × (n ≤ 12)
   frame-numbers js have = frame-laws b js have .number
+
+  -- and no call a value above 4,488, whatever the input: a refusal's place, or what is answered
+  pub check-values : valueOf (checkReply b) ≤ 4488
+  check-values = check-small b
+
+  pub next-values : (have : ℕ) → valueOf (nextReply b have) ≤ 4488
+  next-values = next-small b
+
+  pub house-values : (have : ℕ) → valueOf (houseReply b have) ≤ 4488
+  house-values = house-small b
+
+  pub play-values : (js : List ℕ) (have : ℕ) → valueOf (playReply b js have) ≤ 4488
+  play-values = play-small b
+
+  pub frame-values : (js : List ℕ) (have : ℕ) → valueOf (frameReply b js have) ≤ 4488
+  frame-values = frame-small b
 
 -- ==== The output buffer
 -- on refusal it keeps its former content; what is written stands at its start, and beyond the answered length it stays as it stood

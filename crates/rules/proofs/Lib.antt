@@ -28,4 +28,6 @@ pub mod Buffer
 pub mod Replies
 pub mod Fields
 pub mod Alike
+pub mod Places
+pub mod Values
 pub mod Demands

@@ -228,13 +228,13 @@ stopped-or-left (stopped m k) end e = let z = same-refusal e in inl (ap₂ stopp
 stopped-or-left (left st) end e = inr (st, refl, e)
 
 module _ (s : Sheet) (js : List ℕ) where
-  abbrev playEnd : State → Reply
+  abbrev pub playEnd : State → Reply
   playEnd st = cond (ltb (length js) (length (s .links))) (refusal 11 (length js)) (writes (bytes (outcome s st)))
 
-  abbrev playList : Reply
+  abbrev pub playList : Reply
   playList = afterList (run s js) playEnd
 
-  abbrev frameList : Reply
+  abbrev pub frameList : Reply
   frameList = afterList (run s js) (λ st. writes (framesOf s st (below (s .nodes))))
 
   play-end : (st : State) {n p : ℕ} → playEnd st ≡ refusal n p → (n ≡ 11) × (p ≡ length js) × (length js < length (s .links))

@@ -1,5 +1,9 @@
+use denote.Ref.{now}
 use mathlib.Core.Path.{ap, _∙_}
+use Rattle.rules.specs.Calls.{checkReply}
+use Rattle.rules.proofs.Demands.{check-values}
 use Rattle.answers.specs.Answers.{packed}
+use Rattle.hjerringsel.proofs.Replies.{value-fits}
 use borrow.Author.Needs.{needs}
 use Rattle.hjerringsel.proofs.hjerringsel_check.Statement.{statement}
 use Rattle.hjerringsel.proofs.hjerringsel_check.Tie as tie
@@ -14,7 +18,8 @@ check-requires c κs = search needs
 
 -- src/lib.rt:312:5
 packed-of-requires : tie.Need-packed-of-requires
-packed-of-requires c κs = search needs
+packed-of-requires c κs =
+    value-fits (c .check .result) (checkReply (now (c .before .before .args .sheet))) (c .check .ensures) (check-values (now (c .before .before .args .sheet)))
 
 -- src/lib.rt:308:1
 returns : tie.Need-returns

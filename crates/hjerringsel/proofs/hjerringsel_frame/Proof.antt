@@ -1,4 +1,7 @@
-use Rattle.hjerringsel.proofs.Replies.{exported}
+use denote.Ref.{now}
+use lib.ListN.{length}
+use Rattle.rules.proofs.Demands.{frame-values}
+use Rattle.hjerringsel.proofs.Replies.{answered-fits, exported}
 use borrow.Author.Needs.{needs}
 use Rattle.hjerringsel.proofs.hjerringsel_frame.Statement.{statement}
 use Rattle.hjerringsel.proofs.hjerringsel_frame.Tie as tie
@@ -13,7 +16,9 @@ frame-requires c κs = search needs
 
 -- src/lib.rt:461:5
 packed-of-requires : tie.Need-packed-of-requires
-packed-of-requires c κs = search needs
+packed-of-requires c κs =
+    answered-fits (c .before .before .frame .ensures)
+    (frame-values (now (c .before .before .before .before .before .before .before .args .sheet)) (now (c .before .before .before .before .before .before .before .args .list)) (length (now (c .before .before .before .before .before .before .before .args .out))))
 
 -- src/lib.rt:457:1
 same-length : tie.Need-same-length

@@ -1,4 +1,7 @@
-use Rattle.hjerringsel.proofs.Replies.{exported}
+use denote.Ref.{now}
+use lib.ListN.{length}
+use Rattle.rules.proofs.Demands.{next-values}
+use Rattle.hjerringsel.proofs.Replies.{answered-fits, exported}
 use borrow.Author.Needs.{needs}
 use Rattle.hjerringsel.proofs.hjerringsel_next.Statement.{statement}
 use Rattle.hjerringsel.proofs.hjerringsel_next.Tie as tie
@@ -13,7 +16,9 @@ next-requires c κs = search needs
 
 -- src/lib.rt:319:5
 packed-of-requires : tie.Need-packed-of-requires
-packed-of-requires c κs = search needs
+packed-of-requires c κs =
+    answered-fits (c .before .before .next .ensures)
+    (next-values (now (c .before .before .before .before .before .before .args .sheet)) (length (now (c .before .before .before .before .before .before .args .out))))
 
 -- src/lib.rt:315:1
 same-length : tie.Need-same-length
