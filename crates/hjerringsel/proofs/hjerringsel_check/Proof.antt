@@ -3,7 +3,7 @@ use mathlib.Core.Path.{ap, _∙_}
 use Rattle.rules.specs.Calls.{checkReply}
 use Rattle.rules.proofs.Demands.{check-values}
 use Rattle.answers.specs.Answers.{packed}
-use Rattle.hjerringsel.proofs.Replies.{value-fits}
+use Rattle.hjerringsel.proofs.Exported.{value-fits}
 use borrow.Author.Needs.{needs}
 use Rattle.hjerringsel.proofs.hjerringsel_check.Statement.{statement}
 use Rattle.hjerringsel.proofs.hjerringsel_check.Tie as tie

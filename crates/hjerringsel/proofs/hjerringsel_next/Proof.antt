@@ -1,7 +1,7 @@
 use denote.Ref.{now}
 use lib.ListN.{length}
 use Rattle.rules.proofs.Demands.{next-values}
-use Rattle.hjerringsel.proofs.Replies.{answered-fits, exported}
+use Rattle.hjerringsel.proofs.Exported.{answered-fits, exported}
 use borrow.Author.Needs.{needs}
 use Rattle.hjerringsel.proofs.hjerringsel_next.Statement.{statement}
 use Rattle.hjerringsel.proofs.hjerringsel_next.Tie as tie

@@ -1,7 +1,7 @@
 use denote.Ref.{now}
 use lib.ListN.{length}
 use Rattle.rules.proofs.Demands.{play-values}
-use Rattle.hjerringsel.proofs.Replies.{answered-fits, exported}
+use Rattle.hjerringsel.proofs.Exported.{answered-fits, exported}
 use borrow.Author.Needs.{needs}
 use Rattle.hjerringsel.proofs.hjerringsel_play.Statement.{statement}
 use Rattle.hjerringsel.proofs.hjerringsel_play.Tie as tie

@@ -2,10 +2,10 @@ use Prim.Native.Nat.{ℕ}
 use mathlib.Core.Path.{sym, ap}
 use Rattle.answers.specs.Answers.{both}
 use borrow.Author.Needs.{needs}
-use Rattle.hjerringsel.proofs.answer_of.Statement.{statement}
-use Rattle.hjerringsel.proofs.answer_of.Tie as tie
-use Rattle.hjerringsel.proofs.answer_of.Reads as reads
-use Rattle.hjerringsel.proofs.answer_of.Lts as lts
+use Rattle.calls.proofs.answer_of.Statement.{statement}
+use Rattle.calls.proofs.answer_of.Tie as tie
+use Rattle.calls.proofs.answer_of.Reads as reads
+use Rattle.calls.proofs.answer_of.Lts as lts
 use Rattle.answers.proofs.refused.Reads as refused-reads
 
 -- src/lib.rt:267:9

@@ -1,7 +1,7 @@
 -- From what a sheet is opened as to the reply that the rules give.
-use Prim.Native.Nat.{ℕ, _+_, _*_, _%_, _≤_, _<_}
+use Prim.Native.Nat.{ℕ, _+_, _*_, _≤_, _<_}
 use native.Mathlib.Omega.{arith}
-use mathlib.Core.Path.{_≡_, refl, sym, ap, ap₂, subst, _∙_}
+use mathlib.Core.Path.{_≡_, refl, sym, ap, subst, _∙_}
 use mathlib.Core.List.{List, [], _++_}
 use lib.ListN.{length, drop}
 use borrow.Author.Tests.{lt-ltb, le-ltb}
@@ -15,7 +15,6 @@ use Rattle.rules.specs.Calls.{Reply, refusal, answer, over, onSheet, room, writ
 use Rattle.rules.proofs.Refusals.{check-number}
 use Rattle.rules.proofs.Sound.{Sound}
 use Rattle.rules.proofs.Next.{next-length}
-use Rattle.rules.proofs.Values.{valueOf}
 use Rattle.rules.proofs.Demands.{next-call, house-call, house-order}
 use Rattle.sheet.specs.declared.SheetHeld.{SheetHeld}
 use Rattle.sheet.specs.Held.{sheetSaid}
@@ -24,7 +23,7 @@ use Rattle.play.specs.declared.Said.{Said}
 use Rattle.play.specs.Replies.{played, framed, saidOf, Replied}
 use Rattle.admit.specs.declared.Opened.{Opened}
 use Rattle.admit.specs.Opened.{openedSaid, OpenedGiven, Ready, readyIf}
-use Rattle.answers.specs.Answers.{Numbers, both, told, numbers, Answered, packed, Exported}
+use Rattle.answers.specs.Answers.{both, told, numbers, Answered}
 use Rattle.answers.specs.declared.Answer.{Answer}
 
 module _ (b : List ℕ) {tr fs ts ls xs ss gs ps os ord turn : List ℕ} {r : Opened} (given : OpenedGiven r b tr fs ts ls xs ss gs ps os ord turn) where
@@ -100,20 +99,6 @@ module _ (b : List ℕ) {tr fs ts ls xs ss gs ps os ord turn : List ℕ} {r : Op
         let z : length (s .links) ≡ h .links = held-length (h .links) fs ts ls xs in
         answered-done old out (house-call s ok b have (is-accepted b given e) (omega arith) ∙ ap (λ (k : ℕ). answer k (house s)) z)
         (q ∙ ap (λ (k : ℕ). house s ++ drop k old) (sym (house-order s ok .1 ∙ z)))
-
--- ---- as one number: what an answer tells fits its half
-value-of : (reply : Reply) → numbers reply .value ≡ valueOf reply
-value-of (refusal n p) = refl
-value-of (answer v new) = refl
-
-pub value-fits : (a : Answer) (reply : Reply) → told a ≡ numbers reply → valueOf reply ≤ 4488 → told a .value < 4294967296
-value-fits a reply e h = omega (arith, ap (λ (x : Numbers). x .value) e, value-of reply)
-
-pub answered-fits : {a : Answer} {reply : Reply} {old new : List ℕ} → Answered a reply old new → valueOf reply ≤ 4488 → told a .value < 4294967296
-answered-fits {a} {reply} w h = value-fits a reply (w .says) h
-
-pub exported : {a : Answer} {r : ℕ} {reply : Reply} {old new : List ℕ} → r ≡ packed (told a) → Answered a reply old new → Exported r reply old new
-exported e w = record { says = e ∙ ap packed (w .says); writes = w .writes }
 
 -- ---- Play and Frame: what the inner call says
 said-numbers : (reply : Reply) → both (saidOf reply .number) (saidOf reply .value) ≡ numbers reply

@@ -2,14 +2,14 @@ use denote.Ref.{now}
 use lib.ListN.{length}
 use Rattle.rules.proofs.Demands.{frame-numbers}
 use Rattle.play.proofs.Replies.{frame-reply}
-use Rattle.hjerringsel.proofs.Replies.{refused-number, is-ready, answered-refused, said-small, said-answered, frame-refused, frame-short}
+use Rattle.calls.proofs.Replies.{refused-number, is-ready, answered-refused, said-small, said-answered, frame-refused, frame-short}
 use borrow.Author.Needs.{needs}
-use Rattle.hjerringsel.proofs.frame.Statement.{statement}
-use Rattle.hjerringsel.proofs.frame.Tie as tie
-use Rattle.hjerringsel.proofs.frame.Reads as reads
-use Rattle.hjerringsel.proofs.frame.Lts as lts
+use Rattle.calls.proofs.frame.Statement.{statement}
+use Rattle.calls.proofs.frame.Tie as tie
+use Rattle.calls.proofs.frame.Reads as reads
+use Rattle.calls.proofs.frame.Lts as lts
 use Rattle.admit.proofs.open.Reads as open-reads
-use Rattle.hjerringsel.proofs.answer_of.Reads as answer-of-reads
+use Rattle.calls.proofs.answer_of.Reads as answer-of-reads
 use Rattle.answers.proofs.refused.Reads as refused-reads
 use Rattle.play.proofs.frame_accepted.Reads as frame-accepted-reads
 

@@ -18,7 +18,7 @@ use Rattle.house.specs.House.{GraphHeld}
 use Rattle.round.specs.Calculated.{Ordered, Given, Silent, CalculatedFor}
 use Rattle.admit.specs.Opened.{Ready}
 use Rattle.admit.proofs.Lines.{net-ready}
-use Rattle.hjerringsel.specs.Written.{ReadyHeld, NextWritten}
+use Rattle.calls.specs.Written.{ReadyHeld, NextWritten}
 
 -- a new array
 abbrev zeros : ℕ → List ℕ

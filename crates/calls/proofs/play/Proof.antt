@@ -2,14 +2,14 @@ use denote.Ref.{now}
 use lib.ListN.{length}
 use Rattle.rules.proofs.Demands.{play-numbers}
 use Rattle.play.proofs.Replies.{play-reply}
-use Rattle.hjerringsel.proofs.Replies.{refused-number, is-ready, answered-refused, said-small, said-answered, play-refused, play-short}
+use Rattle.calls.proofs.Replies.{refused-number, is-ready, answered-refused, said-small, said-answered, play-refused, play-short}
 use borrow.Author.Needs.{needs}
-use Rattle.hjerringsel.proofs.play.Statement.{statement}
-use Rattle.hjerringsel.proofs.play.Tie as tie
-use Rattle.hjerringsel.proofs.play.Reads as reads
-use Rattle.hjerringsel.proofs.play.Lts as lts
+use Rattle.calls.proofs.play.Statement.{statement}
+use Rattle.calls.proofs.play.Tie as tie
+use Rattle.calls.proofs.play.Reads as reads
+use Rattle.calls.proofs.play.Lts as lts
 use Rattle.admit.proofs.open.Reads as open-reads
-use Rattle.hjerringsel.proofs.answer_of.Reads as answer-of-reads
+use Rattle.calls.proofs.answer_of.Reads as answer-of-reads
 use Rattle.answers.proofs.refused.Reads as refused-reads
 use Rattle.play.proofs.play_accepted.Reads as play-accepted-reads
 

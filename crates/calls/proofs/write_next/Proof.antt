@@ -1,11 +1,11 @@
 use native.Mathlib.Omega.{arith}
 use Rattle.node.proofs.Held.{links-few}
-use Rattle.hjerringsel.proofs.Writing.{loads-in, silent, to-calculate, to-write, next-written}
+use Rattle.calls.proofs.Writing.{loads-in, silent, to-calculate, to-write, next-written}
 use borrow.Author.Needs.{needs}
-use Rattle.hjerringsel.proofs.write_next.Statement.{statement}
-use Rattle.hjerringsel.proofs.write_next.Tie as tie
-use Rattle.hjerringsel.proofs.write_next.Reads as reads
-use Rattle.hjerringsel.proofs.write_next.Lts as lts
+use Rattle.calls.proofs.write_next.Statement.{statement}
+use Rattle.calls.proofs.write_next.Tie as tie
+use Rattle.calls.proofs.write_next.Reads as reads
+use Rattle.calls.proofs.write_next.Lts as lts
 use Rattle.numbers.proofs.write_line_delays.Reads as write-line-delays-reads
 use Rattle.round.proofs.next_fractions.Reads as next-fractions-reads
 use Rattle.sheet.proofs.write_fractions.Reads as write-fractions-reads

@@ -4,12 +4,12 @@ use mathlib.Core.List.{[]}
 use lib.ListN.{length}
 use Rattle.rules.specs.Calls.{answer}
 use Rattle.answers.specs.Answers.{numbers}
-use Rattle.hjerringsel.proofs.Replies.{refused-number, refused-reply, links-reply}
+use Rattle.calls.proofs.Replies.{refused-number, refused-reply, links-reply}
 use borrow.Author.Needs.{needs}
-use Rattle.hjerringsel.proofs.check.Statement.{statement}
-use Rattle.hjerringsel.proofs.check.Tie as tie
-use Rattle.hjerringsel.proofs.check.Reads as reads
-use Rattle.hjerringsel.proofs.check.Lts as lts
+use Rattle.calls.proofs.check.Statement.{statement}
+use Rattle.calls.proofs.check.Tie as tie
+use Rattle.calls.proofs.check.Reads as reads
+use Rattle.calls.proofs.check.Lts as lts
 use Rattle.admit.proofs.open.Reads as open-reads
 use Rattle.answers.proofs.refused.Reads as refused-reads
 

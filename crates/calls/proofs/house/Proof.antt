@@ -1,13 +1,13 @@
 use native.Mathlib.Omega.{arith}
 use denote.Ref.{now}
 use lib.ListN.{length}
-use Rattle.hjerringsel.proofs.Replies.{refused-number, is-ready, answered-refused, house-refused, house-short, house-answered}
-use Rattle.hjerringsel.proofs.Writing.{graph-held, empty}
+use Rattle.calls.proofs.Replies.{refused-number, is-ready, answered-refused, house-refused, house-short, house-answered}
+use Rattle.calls.proofs.Writing.{graph-held, empty}
 use borrow.Author.Needs.{needs}
-use Rattle.hjerringsel.proofs.house.Statement.{statement}
-use Rattle.hjerringsel.proofs.house.Tie as tie
-use Rattle.hjerringsel.proofs.house.Reads as reads
-use Rattle.hjerringsel.proofs.house.Lts as lts
+use Rattle.calls.proofs.house.Statement.{statement}
+use Rattle.calls.proofs.house.Tie as tie
+use Rattle.calls.proofs.house.Reads as reads
+use Rattle.calls.proofs.house.Lts as lts
 use Rattle.admit.proofs.open.Reads as open-reads
 use Rattle.answers.proofs.refused.Reads as refused-reads
 use Rattle.house.proofs.write_house.Reads as write-house-reads

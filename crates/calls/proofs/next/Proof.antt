@@ -1,15 +1,15 @@
 use native.Mathlib.Omega.{arith}
 use denote.Ref.{now}
 use lib.ListN.{length}
-use Rattle.hjerringsel.proofs.Replies.{refused-number, is-ready, answered-refused, next-refused, next-short, next-answered}
+use Rattle.calls.proofs.Replies.{refused-number, is-ready, answered-refused, next-refused, next-short, next-answered}
 use borrow.Author.Needs.{needs}
-use Rattle.hjerringsel.proofs.next.Statement.{statement}
-use Rattle.hjerringsel.proofs.next.Tie as tie
-use Rattle.hjerringsel.proofs.next.Reads as reads
-use Rattle.hjerringsel.proofs.next.Lts as lts
+use Rattle.calls.proofs.next.Statement.{statement}
+use Rattle.calls.proofs.next.Tie as tie
+use Rattle.calls.proofs.next.Reads as reads
+use Rattle.calls.proofs.next.Lts as lts
 use Rattle.admit.proofs.open.Reads as open-reads
 use Rattle.answers.proofs.refused.Reads as refused-reads
-use Rattle.hjerringsel.proofs.write_next.Reads as write-next-reads
+use Rattle.calls.proofs.write_next.Reads as write-next-reads
 
 -- src/lib.rt:169:9
 slice-aggregate-open : tie.Need-slice-aggregate-open
