@@ -43,7 +43,7 @@ use Rattle.play.specs.Played.{AnyAccepted}
 use Rattle.play.proofs.Playing.{nothing, lined-net}
 use Rattle.false_states.specs.declared.Question.{Question}
 use Rattle.false_states.specs.declared.Follows.{Follows}
-use Rattle.false_states.specs.False.{carriedBy, takenBy, Placed, Word, SentAsked, Sent, RowsAsked, RowsTaken, SentWith, TakenWith, wordSaid, FollowedBy, Followed, sentBy, rowBy, everything}
+use Rattle.false_states.specs.False.{largestStored, carriedBy, takenBy, Placed, Word, SentAsked, Sent, RowsAsked, RowsTaken, SentWith, TakenWith, wordSaid, FollowedBy, Followed, sentBy, rowBy, everything}
 
 told-delay : (x : ℕ) → delayTold (toldOf x) ≡ x / 4
 told-delay x = go (eqb x 0) refl
@@ -71,7 +71,7 @@ module _ {h : SheetHeld} {tr fs ts ls xs ss os : List ℕ} where
         st = stateSaid (h .links) os inbox
 
         -- the word there is the new one, or the old
-        other : (o : ℕ) → Dec (o ≡ j) → delayTold (getD st o silent) ≤ 63 * 1048576 → delayTold (getD (set st j (toldOf w)) o silent) ≤ 63 * 1048576
+        other : (o : ℕ) → Dec (o ≡ j) → delayTold (getD st o silent) ≤ largestStored → delayTold (getD (set st j (toldOf w)) o silent) ≤ largestStored
         other o (yes e) b = omega (
           arith,
           ap (λ (x : ℕ). delayTold (getD (set st j (toldOf w)) x silent)) e,
@@ -81,7 +81,7 @@ module _ {h : SheetHeld} {tr fs ts ls xs ss os : List ℕ} where
         )
         other o (no ne) b = omega (arith, ap delayTold (getD-set-other st j o (toldOf w) silent ne))
 
-        go : Dec (k < h .links) → getD inbox' k 0 / 4 ≤ 63 * 1048576
+        go : Dec (k < h .links) → getD inbox' k 0 / 4 ≤ largestStored
         go (no n) = let z = kept-now .beyond k (omega arith) in rw z (omega arith)
         go (yes a) = omega (
           arith,
@@ -194,7 +194,7 @@ graph-held {h} {tr} {fs} {ls} {xs} {ss} {gs} {ps} some = let ready = some .1 .re
 }
 
 module _ {h : SheetHeld} {tr fs ls xs ss gs ps os line : List ℕ} (lines : LinesOf (take (h .links) ls) (replicate 512 0) line) {j w : ℕ} where
-  pub rows-asked : {d : ℕ} {qs : List ℕ} → AnyAccepted h tr fs ls xs ss gs ps os → j < h .links → d ≤ 63 * 1048576 → w / 4 ≡ d → 0 < w → length qs ≡ 64
+  pub rows-asked : {d : ℕ} {qs : List ℕ} → AnyAccepted h tr fs ls xs ss gs ps os → j < h .links → d ≤ largestStored → w / 4 ≡ d → 0 < w → length qs ≡ 64
       → RowsAsked j w h tr fs ss gs ps line xs os (replicate 512 0) qs
   rows-asked some inside top same word z = record {
     held = lined-net nothing lines some;
@@ -204,7 +204,7 @@ module _ {h : SheetHeld} {tr fs ls xs ss gs ps os line : List ℕ} (lines : Line
     stored = inside;
   }
 
-  pub sent-asked : {k d : ℕ} {qs : List ℕ} → AnyAccepted h tr fs ls xs ss gs ps os → j < h .links → k < h .links → d ≤ 63 * 1048576 → w / 4 ≡ d → 0 < w → length qs ≡ 64
+  pub sent-asked : {k d : ℕ} {qs : List ℕ} → AnyAccepted h tr fs ls xs ss gs ps os → j < h .links → k < h .links → d ≤ largestStored → w / 4 ≡ d → 0 < w → length qs ≡ 64
       → SentAsked j w k h tr fs ss gs ps line xs os (replicate 512 0) qs
   sent-asked some inside sends top same word z = record {
     held = lined-net nothing lines some;

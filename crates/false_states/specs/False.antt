@@ -37,10 +37,14 @@ pub record Placed (j : ℕ) (os inbox : List ℕ) : Type 0 where
   pub link : j < length os
   pub place : getD os j 0 < length inbox
 
--- a word that is told, with a delay of at most 63 × 1,048,576
+-- the largest delay of a stored word that the statements of one delivery speak of
+abbrev pub largestStored : ℕ
+largestStored = 63 * 1048576
+
+-- a word that is told, with such a delay
 pub record Word (w : ℕ) : Type 0 where
   pub heard : 0 < w
-  pub small : w / 4 ≤ 63 * 1048576
+  pub small : w / 4 ≤ largestStored
 
 -- nothing is delivered, and there is room for the state
 pub record SentAsked (j w k : ℕ) (h : SheetHeld) (tr fs ss gs ps line xs os inbox qs : List ℕ) : Type 0 where

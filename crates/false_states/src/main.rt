@@ -20,10 +20,10 @@ ghost use lib.ListN.{length, getD};
 ghost use Rattle.rules.specs.Plates.{plateA};
 ghost use Rattle.desk.specs.Ways.{toldOf};
 ghost use Rattle.play.specs.Played.{AnyAccepted};
-ghost use Rattle.false_states.specs.False.{Placed, SentAsked, Sent, RowsAsked, RowsTaken, SentWith, TakenWith, Followed, wordSaid, sentBy, rowBy, everything};
+ghost use Rattle.false_states.specs.False.{largestStored, Placed, SentAsked, Sent, RowsAsked, RowsTaken, SentWith, TakenWith, Followed, wordSaid, sentBy, rowBy, everything};
 
-// The largest delay that a word can carry.
-const LARGEST_DELAY: u32 = 63 * 1_048_576;
+// The largest delay of a stored word that the statements of one delivery speak of.
+const LARGEST_STORED: u32 = 63 * 1_048_576;
 
 // What is asked: the word that the delivery on a link then stores, with nothing else delivered; or every node's new row, with everything
 // delivered.
@@ -166,7 +166,7 @@ fn sent_with(
     fraction: &[u32],
     opposite: &[u16],
 ) -> Told
-    requires { ⌜ AnyAccepted h (now traffic) (now from) (now load) (now fraction) (now starts) (now «flow_starts») (now flow) (now opposite) × (j < h .links) × (k < h .links) × (m .delay .0 ≤ 63 * 1048576) ⌝ }
+    requires { ⌜ AnyAccepted h (now traffic) (now from) (now load) (now fraction) (now starts) (now «flow_starts») (now flow) (now opposite) × (j < h .links) × (k < h .links) × (m .delay .0 ≤ largestStored) ⌝ }
     ensures { λ r. ⌜ SentWith (r .0) j m k h (now (traffic .entry)) (now (from .entry)) (now (load .entry)) (now (fraction .entry)) (now (starts .entry)) (now («flow_starts» .entry)) (now (flow .entry)) (now (opposite .entry)) ⌝ }
 {
     let mut line = [0u32; 512];
@@ -206,7 +206,7 @@ fn taken_with(
     opposite: &[u16],
     fraction: &mut [u32],
 ) -> bool
-    requires { ⌜ AnyAccepted h (now traffic) (now from) (now load) (now fraction) (now starts) (now «flow_starts») (now flow) (now opposite) × (j < h .links) × (m .delay .0 ≤ 63 * 1048576) ⌝ }
+    requires { ⌜ AnyAccepted h (now traffic) (now from) (now load) (now fraction) (now starts) (now «flow_starts») (now flow) (now opposite) × (j < h .links) × (m .delay .0 ≤ largestStored) ⌝ }
     ensures { λ r. ⌜ TakenWith r j m h (now (traffic .entry)) (now (from .entry)) (now (load .entry)) (now (fraction .entry)) (now (starts .entry)) (now («flow_starts» .entry)) (now (flow .entry)) (now (opposite .entry)) (now (fraction .exit)) ⌝ }
 {
     let mut line = [0u32; 512];
@@ -248,7 +248,7 @@ fn taken_with(
 
 // What follows where m is stored on link j of a sheet.
 fn work_out(question: Question, sheet: &[u8], j: usize, m: Message, fraction: &mut [u32]) -> Follows
-    requires { ⌜ (m .delay .0 ≤ 63 * 1048576) × (length (now fraction) ≡ 512) ⌝ }
+    requires { ⌜ (m .delay .0 ≤ largestStored) × (length (now fraction) ≡ 512) ⌝ }
     ensures { λ r. ⌜ Followed question (now (sheet .entry)) j m r (now (fraction .exit)) ⌝ }
 {
     let mut traffic = [0u32; 64];
@@ -337,7 +337,7 @@ fn word_in(f: Follows) -> Told
 
 // Plate A, with the delay stored on (0,1), unmarked, and nothing else delivered: what goes on (1,2).
 fn word_on_plate_a(delay: Delay) -> Told
-    requires { ⌜ delay .0 ≤ 63 * 1048576 ⌝ }
+    requires { ⌜ delay .0 ≤ largestStored ⌝ }
     ensures { λ r. ⌜ toldOf (r .0) ≡ sentBy plateA (delay .0) ⌝ }
 {
     let sheet = plate_a::BYTES;
@@ -357,7 +357,7 @@ fn word_on_plate_a(delay: Delay) -> Told
 
 // Plate A, with everything delivered and the delay stored on (2,1), unmarked: node 1's new row.
 fn row_on_plate_a(delay: Delay) -> RowHeld
-    requires { ⌜ delay .0 ≤ 63 * 1048576 ⌝ }
+    requires { ⌜ delay .0 ≤ largestStored ⌝ }
     ensures { λ r. ⌜ (r .direct .0 ∷ r .over .0 ∷ []) ≡ rowBy plateA (everything plateA) (delay .0) ⌝ }
 {
     let sheet = plate_a::BYTES;
@@ -404,7 +404,7 @@ fn mark_in(w: Told) -> u32 {
 }
 
 fn show_word(kind: &[u8], delay: Delay)
-    requires { ⌜ delay .0 ≤ 63 * 1048576 ⌝ }
+    requires { ⌜ delay .0 ≤ largestStored ⌝ }
 {
     print_stored(kind, delay, b" on (0,1), nothing else delivered: ");
     let w = word_on_plate_a(delay);
@@ -418,7 +418,7 @@ fn show_word(kind: &[u8], delay: Delay)
 }
 
 fn show_row(kind: &[u8], delay: Delay)
-    requires { ⌜ delay .0 ≤ 63 * 1048576 ⌝ }
+    requires { ⌜ delay .0 ≤ largestStored ⌝ }
 {
     print_stored(kind, delay, b" on (2,1), everything delivered: ");
     let row = row_on_plate_a(delay);
@@ -500,7 +500,7 @@ fn follow_case(b: &[u8], fraction: &mut [u32]) -> Follows
     let delay = delay_at(b, 3);
     let mark = b[7];
     let k = link_at(b, 8);
-    if LARGEST_DELAY < delay {
+    if LARGEST_STORED < delay {
         return Follows::Nothing;
     }
     if 1 < mark {

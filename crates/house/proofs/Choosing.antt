@@ -32,7 +32,7 @@ use Rattle.messages.proofs.Counts.{heard-set}
 use Rattle.messages.proofs.Storing.{from-in, waits-kept, link-at, counted-kept}
 use Rattle.messages.proofs.Beginning.{rows-at, state-start, begun-kept}
 use Rattle.house.specs.declared.Spot.{Spot}
-use Rattle.house.specs.House.{Passed, Searchable, LowestAt, Found, Amends, GraphHeld, HouseWritten}
+use Rattle.house.specs.House.{Passed, Searchable, LowestAt, Found, ChosenStored, GraphHeld, HouseWritten}
 use Rattle.house.proofs.Digits.{every-live}
 
 -- ---- the net of a graph: its lines' delays stand in no slice here
@@ -218,7 +218,7 @@ module _ {h : SheetHeld} {fs ss gs xs os : List ℕ} (held : GraphHeld h fs ss g
       pub choosing-counted : Counted (r .link) fs xs os inbox qs
       choosing-counted = counted-kept (now .kept) (found .lowest .inside)
 
-      pub choosing-more : {inbox' qs' cs'' : List ℕ} {more : ℕ} → k < h .links → h .links ≤ length out₀ → Amends (r .link) (r .live) fs xs os inbox qs cs' inbox' qs' cs'' more
+      pub choosing-more : {inbox' qs' cs'' : List ℕ} {more : ℕ} → k < h .links → h .links ≤ length out₀ → ChosenStored (r .link) (r .live) fs xs os inbox qs cs' inbox' qs' cs'' more
           → Choosing h fs ss xs os inbox' qs' cs'' out₀ (set out k (r .link)) more (k + 1)
       choosing-more a b put =
           let kept = put .stored .keeps (now .kept) (found .lowest .inside) in

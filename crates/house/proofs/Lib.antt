@@ -1,4 +1,4 @@
 pub mod Digits
 pub mod Searching
-pub mod Marking
+pub mod Storing
 pub mod Choosing

@@ -58,7 +58,7 @@ pub record Found (h : SheetHeld) (r : Spot) (fs xs os inbox qs cs : List ℕ) : 
   pub passed : Passed (h .links) (r .live) fs xs os inbox qs cs
 
 -- a word is stored on link j, and still nothing waits that has been passed
-pub record Amends (j live : ℕ) (fs xs os inbox qs cs inbox' qs' cs' : List ℕ) (r : ℕ) : Type 0 where
+pub record ChosenStored (j live : ℕ) (fs xs os inbox qs cs inbox' qs' cs' : List ℕ) (r : ℕ) : Type 0 where
   pub change : Change
   pub stored : Stored j 1 fs xs os inbox qs inbox' qs' change
   pub passed : {h : SheetHeld} {tr ts ls ss : List ℕ} {t : Tally} → Kept h tr fs ts ls xs ss os inbox qs t → j < h .links → Passed (h .links) live fs xs os inbox qs cs

@@ -7,7 +7,7 @@ ghost use Prim.Native.Nat.{_+_, _-_, _^_, _≤_, _<_};
 ghost use lib.ListN.{length};
 ghost use Rattle.messages.specs.State.{LinkAt, Counted, Empty};
 ghost use Rattle.house.specs.Nodes.{digit, With, Without, FirstIn};
-ghost use Rattle.house.specs.House.{LinksAt, NextFrom, Searchable, Found, Amends, GraphHeld, HouseWritten};
+ghost use Rattle.house.specs.House.{LinksAt, NextFrom, Searchable, Found, ChosenStored, GraphHeld, HouseWritten};
 
 // Nodes that may have a message waiting are a word, live: node i is in it where its bit i is 1.
 const EVERY_NODE: u64 = 0xFFFF_FFFF_FFFF_FFFF;
@@ -124,7 +124,7 @@ fn find_lowest(
 
 // Stores the word on link j, and gives the nodes that are live then. Only its far node's status can change; where it does, that node's row
 // is searched from its start again. No message is delivered, so there is no tally to amend.
-fn mark(
+fn store_chosen(
     j: usize,
     live: u64,
     from: &[u8],
@@ -135,7 +135,7 @@ fn mark(
     cursor: &mut [u16],
 ) -> u64
     requires { ⌜ LinkAt j (now from) (now fraction) (now opposite) (now inbox) (now quiet) × Counted j (now from) (now fraction) (now opposite) (now inbox) (now quiet) × (length (now cursor) ≡ 64) ⌝ }
-    ensures { λ r. ⌜ Amends j live (now (from .entry)) (now (fraction .entry)) (now (opposite .entry)) (now (inbox .entry)) (now (quiet .entry)) (now (cursor .entry)) (now (inbox .exit)) (now (quiet .exit)) (now (cursor .exit)) r ⌝ }
+    ensures { λ r. ⌜ ChosenStored j live (now (from .entry)) (now (fraction .entry)) (now (opposite .entry)) (now (inbox .entry)) (now (quiet .entry)) (now (cursor .entry)) (now (inbox .exit)) (now (quiet .exit)) (now (cursor .exit)) r ⌝ }
 {
     let p = opposite[j] as usize;
     let far = from[p] as usize;
@@ -182,7 +182,7 @@ pub fn write_house(
             &mut cursor,
         );
         out[k] = s.link as u16;
-        live = mark(
+        live = store_chosen(
             s.link,
             s.live,
             from,

@@ -33,11 +33,11 @@ mul-out c = search needs
 slice-write-out : tie.Need-slice-write-out Inv-loop μ-loop
 slice-write-out c = search needs
 
-slice-aggregate-mark : tie.Need-slice-aggregate-mark Inv-loop μ-loop
-slice-aggregate-mark c = search needs
+slice-aggregate-store-chosen : tie.Need-slice-aggregate-store-chosen Inv-loop μ-loop
+slice-aggregate-store-chosen c = search needs
 
-mark-requires : tie.Need-mark-requires Inv-loop μ-loop
-mark-requires c κs = let held = c .before .before .before .before .before .before .before .before .before .before .before .before .before .before .before .before .before .before .before .before .before .before .before .pre .0 in let inv = c .before .before .before .before .before .before .before .before .before .before .loop .inv in let found = c .before .before .before .before .before .find-lowest .ensures in (choosing-link held inv found, choosing-counted held inv found, search needs)
+store-chosen-requires : tie.Need-store-chosen-requires Inv-loop μ-loop
+store-chosen-requires c κs = let held = c .before .before .before .before .before .before .before .before .before .before .before .before .before .before .before .before .before .before .before .before .before .before .before .pre .0 in let inv = c .before .before .before .before .before .before .before .before .before .before .loop .inv in let found = c .before .before .before .before .before .find-lowest .ensures in (choosing-link held inv found, choosing-counted held inv found, search needs)
 
 add-k : tie.Need-add-k Inv-loop μ-loop
 add-k c = search needs
@@ -46,7 +46,7 @@ loop-less : tie.Need-loop-less Inv-loop μ-loop
 loop-less c = search needs
 
 loop-again : tie.Need-loop-again Inv-loop μ-loop
-loop-again c = let pre = c .before .before .before .before .before .before .before .before .before .before .before .before .before .before .before .before .before .before .before .before .before .before .before .before .before .before .before .before .before .pre in choosing-more (pre .0) (c .before .before .before .before .before .before .before .before .before .before .before .before .before .before .before .before .loop .inv) (c .before .before .before .before .before .before .before .before .before .before .before .find-lowest .ensures) (c .before .before .before .before .before .before .before .before .before .before .before .before .before .before .before .loop-test .taken) (pre .3) (c .before .before .before .before .before .mark .ensures)
+loop-again c = let pre = c .before .before .before .before .before .before .before .before .before .before .before .before .before .before .before .before .before .before .before .before .before .before .before .before .before .before .before .before .before .pre in choosing-more (pre .0) (c .before .before .before .before .before .before .before .before .before .before .before .before .before .before .before .before .loop .inv) (c .before .before .before .before .before .before .before .before .before .before .before .find-lowest .ensures) (c .before .before .before .before .before .before .before .before .before .before .before .before .before .before .before .loop-test .taken) (pre .3) (c .before .before .before .before .before .store-chosen .ensures)
 
 same-length : tie.Need-same-length Inv-loop μ-loop
 same-length c = search needs
@@ -73,8 +73,8 @@ write-house-spec =
     cast-out
     mul-out
     slice-write-out
-    slice-aggregate-mark
-    mark-requires
+    slice-aggregate-store-chosen
+    store-chosen-requires
     add-k
     loop-less
     loop-again

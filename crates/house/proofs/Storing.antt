@@ -23,7 +23,7 @@ use Rattle.messages.specs.declared.Change.{Change}
 use Rattle.messages.specs.State.{statusBy, waitingAt, Kept, Stored}
 use Rattle.messages.proofs.Storing.{status-kept, from-in, waits-kept}
 use Rattle.house.specs.Nodes.{digit, With}
-use Rattle.house.specs.House.{Amends}
+use Rattle.house.specs.House.{ChosenStored}
 
 -- ---- for every sheet and every state
 module _ (s : Sheet) (st : State) (j : ℕ) (w : Told) where
@@ -76,11 +76,11 @@ module _ {h : SheetHeld} {j : ℕ} {tr fs ts ls xs ss os inbox qs inbox' qs' : L
       (ap (λ (i : ℕ). status (desk s (set st j (toldOf 1)) i)) own ∙ status-now (getD fs p 0) (from-in kept a) same ∙ ap (λ (i : ℕ). status (desk s st i)) (sym own))
       (sym (waits-kept kept a) ∙ e)
 
--- ---- what mark promises, by whether the far node's status changed
+-- ---- what store_chosen promises, by whether the far node's status changed
 module _ {j live : ℕ} {fs xs os inbox qs cs inbox' qs' : List ℕ} {c : Change} (put : Stored j 1 fs xs os inbox qs inbox' qs' c) where
-  pub marked-same : {before after : ℕ} → before ≡ statusBy (getD qs (getD fs (getD os j 0) 0) 0) → after ≡ statusBy (getD qs' (getD fs (getD os j 0) 0) 0) → before ≡ after
-      → Amends j live fs xs os inbox qs cs inbox' qs' cs live
-  marked-same x y e = record {
+  pub chosen-same : {before after : ℕ} → before ≡ statusBy (getD qs (getD fs (getD os j 0) 0) 0) → after ≡ statusBy (getD qs' (getD fs (getD os j 0) 0) 0) → before ≡ after
+      → ChosenStored j live fs xs os inbox qs cs inbox' qs' cs live
+  chosen-same x y e = record {
     change = c;
     stored = put;
     passed = λ kept inside old. record {
@@ -93,9 +93,9 @@ module _ {j live : ℕ} {fs xs os inbox qs cs inbox' qs' : List ℕ} {c : Change
       same : (i : ℕ) → i ≡ getD fs (getD os j 0) 0 → statusBy (getD qs' i 0) ≡ statusBy (getD qs i 0)
       same i q = ap (λ (m : ℕ). statusBy (getD qs' m 0)) q ∙ sym y ∙ sym e ∙ x ∙ ap (λ (m : ℕ). statusBy (getD qs m 0)) (sym q)
 
-  pub marked-anew : {more : ℕ} → length cs ≡ 64 → getD fs (getD os j 0) 0 < 64 → With live (getD fs (getD os j 0) 0) more
-      → Amends j live fs xs os inbox qs cs inbox' qs' (set cs (getD fs (getD os j 0) 0) 0) more
-  marked-anew {more} size far-in grown = record {
+  pub chosen-anew : {more : ℕ} → length cs ≡ 64 → getD fs (getD os j 0) 0 < 64 → With live (getD fs (getD os j 0) 0) more
+      → ChosenStored j live fs xs os inbox qs cs inbox' qs' (set cs (getD fs (getD os j 0) 0) 0) more
+  chosen-anew {more} size far-in grown = record {
     change = c;
     stored = put;
     passed = λ kept inside old. record {

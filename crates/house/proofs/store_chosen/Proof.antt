@@ -1,7 +1,7 @@
 use borrow.Author.Needs.{needs}
-use Rattle.house.proofs.Marking.{marked-same, marked-anew}
-use Rattle.house.proofs.mark.Statement.{statement}
-use Rattle.house.proofs.mark.Tie as tie
+use Rattle.house.proofs.Storing.{chosen-same, chosen-anew}
+use Rattle.house.proofs.store_chosen.Statement.{statement}
+use Rattle.house.proofs.store_chosen.Tie as tie
 
 mul-p : tie.Need-mul-p
 mul-p c = search needs
@@ -46,7 +46,7 @@ same-length-2 : tie.Need-same-length-2
 same-length-2 c = search needs
 
 returns : tie.Need-returns
-returns c = marked-same (c .before .before .before .before .before .before .before .store .ensures) (c .before .before .before .before .before .before .before .before .before .before .status-of .ensures) (c .before .status-of2 .ensures) (c .if1 .taken)
+returns c = chosen-same (c .before .before .before .before .before .before .before .store .ensures) (c .before .before .before .before .before .before .before .before .before .before .status-of .ensures) (c .before .status-of2 .ensures) (c .if1 .taken)
 
 mul-cursor : tie.Need-mul-cursor
 mul-cursor c = search needs
@@ -67,10 +67,10 @@ same-length-5 : tie.Need-same-length-5
 same-length-5 c = search needs
 
 returns-2 : tie.Need-returns-2
-returns-2 c = marked-anew (c .before .before .before .before .before .before .before .before .store .ensures) (c .before .before .before .before .before .before .before .before .before .before .before .before .before .before .before .before .before .before .before .before .before .pre .2) (c .before .before .before .before .before .before .before .before .before .before .before .before .before .before .before .before .before .before .before .before .before .pre .0 .far) (c .with .ensures)
+returns-2 c = chosen-anew (c .before .before .before .before .before .before .before .before .store .ensures) (c .before .before .before .before .before .before .before .before .before .before .before .before .before .before .before .before .before .before .before .before .before .pre .2) (c .before .before .before .before .before .before .before .before .before .before .before .before .before .before .before .before .before .before .before .before .before .pre .0 .far) (c .with .ensures)
 
-pub mark-spec : {M : Type 1} → statement M
-mark-spec =
+pub store-chosen-spec : {M : Type 1} → statement M
+store-chosen-spec =
     tie.close
     (tie.spec
     mul-p
