@@ -1,52 +1,32 @@
 // Prints what one round makes of the sheet on standard input: each link's fraction before and after.
 use answers::Answer;
-use answers::Refusal;
 use libc::STDOUT_FILENO;
 ghost use Prim.Native.Nat.{_≤_};
-
-// Answering 0 past the end spares every reader a condition on the bytes.
-fn byte_at(s: &[u8], i: usize) -> u8 {
-    if i < s.len() {
-        return s[i];
-    }
-    0
-}
-
-fn wide(x: u8) -> u64
-    ensures { λ r. ⌜ r ≤ 255 ⌝ }
-{
-    x as u64
-}
-
-fn whole(x: u8) -> usize
-    ensures { λ r. ⌜ r ≤ 255 ⌝ }
-{
-    x as usize
-}
-
-// A number of four bytes has the high byte first.
-fn joined(a: u8, b: u8, c: u8, d: u8) -> u64 {
-    wide(a) * 16777216 + wide(b) * 65536 + wide(c) * 256 + wide(d)
-}
 
 // The fraction is the last four bytes of a link record, which begins at `at`.
 fn fraction(s: &[u8], at: usize) -> u64
     requires { ⌜ at ≤ 8192 ⌝ }
 {
-    joined(
-        byte_at(s, at + 4),
-        byte_at(s, at + 5),
-        byte_at(s, at + 6),
-        byte_at(s, at + 7),
+    printing::joined(
+        printing::byte_at(s, at + 4),
+        printing::byte_at(s, at + 5),
+        printing::byte_at(s, at + 6),
+        printing::byte_at(s, at + 7),
     )
 }
 
 fn print_link(before: &[u8], after: &[u8], at: usize)
     requires { ⌜ at ≤ 8192 ⌝ }
 {
-    io::print_decimal(STDOUT_FILENO, wide(byte_at(before, at + 1)));
+    io::print_decimal(
+        STDOUT_FILENO,
+        printing::wide(printing::byte_at(before, at + 1)),
+    );
     io::write_all(STDOUT_FILENO, b" ");
-    io::print_decimal(STDOUT_FILENO, wide(byte_at(before, at + 2)));
+    io::print_decimal(
+        STDOUT_FILENO,
+        printing::wide(printing::byte_at(before, at + 2)),
+    );
     io::write_all(STDOUT_FILENO, b" ");
     io::print_decimal(STDOUT_FILENO, fraction(before, at));
     io::write_all(STDOUT_FILENO, b" ");
@@ -58,7 +38,7 @@ fn print_link(before: &[u8], after: &[u8], at: usize)
 fn first_link(sheet: &[u8]) -> usize
     ensures { λ r. ⌜ r ≤ 1537 ⌝ }
 {
-    7 + 6 * whole(byte_at(sheet, 1))
+    7 + 6 * printing::whole(printing::byte_at(sheet, 1))
 }
 
 // Each link has 8 bytes; no accepted sheet has more than 512, and none is shorter than its first link.
@@ -85,20 +65,12 @@ fn print_links(before: &[u8], after: &[u8]) {
     }
 }
 
-fn print_refusal(r: Refusal) {
-    io::write_all(STDOUT_FILENO, b"refused ");
-    io::print_decimal(STDOUT_FILENO, answers::number_of(r));
-    io::write_all(STDOUT_FILENO, b" at ");
-    io::print_decimal(STDOUT_FILENO, answers::place_of(r));
-    io::write_all(STDOUT_FILENO, b"\n");
-}
-
 // A function of its own, so that what is read keeps its length in the proof.
 fn list(sheet: &[u8]) {
     let mut after = [0u8; 8192];
     let answer = hjerringsel::next(sheet, &mut after);
     match answer {
-        Answer::Refused(r) => print_refusal(r),
+        Answer::Refused(r) => printing::print_refusal(r),
         Answer::Done(_) => {
             io::write_all(STDOUT_FILENO, b"from to before after\n");
             print_links(sheet, &after);

@@ -1,16 +1,7 @@
 // Shows the round as messages: for each delivery of house order its link, then each node's status, delay and mark.
 use answers::Answer;
-use answers::Refusal;
 use libc::STDOUT_FILENO;
 ghost use Prim.Native.Nat.{_≤_};
-
-// Answering 0 past the end spares every reader a condition on the bytes.
-fn byte_at(s: &[u8], i: usize) -> u8 {
-    if i < s.len() {
-        return s[i];
-    }
-    0
-}
 
 // As `byte_at`, of the list.
 fn number_at(s: &[u16], i: usize) -> u16 {
@@ -20,30 +11,11 @@ fn number_at(s: &[u16], i: usize) -> u16 {
     0
 }
 
-// A byte as a number to print.
-fn wide(x: u8) -> u64
-    ensures { λ r. ⌜ r ≤ 255 ⌝ }
-{
-    x as u64
-}
-
-// A byte as a count.
-fn whole(x: u8) -> usize
-    ensures { λ r. ⌜ r ≤ 255 ⌝ }
-{
-    x as usize
-}
-
 // A link's number as an index.
 fn index(x: u16) -> usize
     ensures { λ r. ⌜ r ≤ 65535 ⌝ }
 {
     x as usize
-}
-
-// A number of four bytes has the high byte first.
-fn joined(a: u8, b: u8, c: u8, d: u8) -> u64 {
-    wide(a) * 16777216 + wide(b) * 65536 + wide(c) * 256 + wide(d)
 }
 
 // A node's six bytes: status, mark, delay. `!` stands for the mark (blocked); a delay is shown only where there is one.
@@ -54,12 +26,12 @@ fn print_node(frame: &[u8], i: usize)
     io::write_all(STDOUT_FILENO, b"  ");
     io::print_decimal(STDOUT_FILENO, i as u64);
     io::write_all(STDOUT_FILENO, b": ");
-    io::print_decimal(STDOUT_FILENO, wide(byte_at(frame, at)));
-    if byte_at(frame, at) > 0 {
+    io::print_decimal(STDOUT_FILENO, printing::wide(printing::byte_at(frame, at)));
+    if printing::byte_at(frame, at) > 0 {
         io::write_all(STDOUT_FILENO, b" ");
         print_delay(frame, at);
     }
-    if byte_at(frame, at + 1) > 0 {
+    if printing::byte_at(frame, at + 1) > 0 {
         io::write_all(STDOUT_FILENO, b"!");
     }
 }
@@ -68,18 +40,18 @@ fn print_node(frame: &[u8], i: usize)
 fn print_delay(frame: &[u8], at: usize)
     requires { ⌜ at ≤ 1530 ⌝ }
 {
-    let delay = joined(
-        byte_at(frame, at + 2),
-        byte_at(frame, at + 3),
-        byte_at(frame, at + 4),
-        byte_at(frame, at + 5),
+    let delay = printing::joined(
+        printing::byte_at(frame, at + 2),
+        printing::byte_at(frame, at + 3),
+        printing::byte_at(frame, at + 4),
+        printing::byte_at(frame, at + 5),
     );
     io::print_decimal(STDOUT_FILENO, delay);
 }
 
 // Every node on one line.
 fn print_nodes(nodes: u8, frame: &[u8]) {
-    let count = whole(nodes);
+    let count = printing::whole(nodes);
     let mut i = 0;
     while i < count {
         print_node(frame, i);
@@ -91,21 +63,18 @@ fn print_nodes(nodes: u8, frame: &[u8]) {
 // Link j stands behind the head, 7 bytes, the nodes, 6 bytes each, and j links of 8 bytes.
 fn print_link(sheet: &[u8], link: u16) {
     let j = index(link);
-    let at = 7 + 6 * whole(byte_at(sheet, 1)) + 8 * j;
+    let at = 7 + 6 * printing::whole(printing::byte_at(sheet, 1)) + 8 * j;
     io::print_decimal(STDOUT_FILENO, j as u64);
     io::write_all(STDOUT_FILENO, b" ");
-    io::print_decimal(STDOUT_FILENO, wide(byte_at(sheet, at + 1)));
+    io::print_decimal(
+        STDOUT_FILENO,
+        printing::wide(printing::byte_at(sheet, at + 1)),
+    );
     io::write_all(STDOUT_FILENO, b">");
-    io::print_decimal(STDOUT_FILENO, wide(byte_at(sheet, at + 2)));
-}
-
-// One line: the number and the place.
-fn print_refusal(r: Refusal) {
-    io::write_all(STDOUT_FILENO, b"refused ");
-    io::print_decimal(STDOUT_FILENO, answers::number_of(r));
-    io::write_all(STDOUT_FILENO, b" at ");
-    io::print_decimal(STDOUT_FILENO, answers::place_of(r));
-    io::write_all(STDOUT_FILENO, b"\n");
+    io::print_decimal(
+        STDOUT_FILENO,
+        printing::wide(printing::byte_at(sheet, at + 2)),
+    );
 }
 
 // The state that a list leaves, on the rest of the line. A frame has six bytes a node, of at most 64.
@@ -113,8 +82,8 @@ fn print_state(sheet: &[u8], list: &[u16]) {
     let mut frame = [0u8; 384];
     let answer = hjerringsel::frame(sheet, list, &mut frame);
     match answer {
-        Answer::Refused(r) => print_refusal(r),
-        Answer::Done(_) => print_nodes(byte_at(sheet, 1), &frame),
+        Answer::Refused(r) => printing::print_refusal(r),
+        Answer::Done(_) => print_nodes(printing::byte_at(sheet, 1), &frame),
     }
 }
 
@@ -142,7 +111,7 @@ fn take_house(sheet: &[u8]) {
     let mut list = [0u16; 512];
     let answer = hjerringsel::house(sheet, &mut list);
     match answer {
-        Answer::Refused(r) => print_refusal(r),
+        Answer::Refused(r) => printing::print_refusal(r),
         Answer::Done(n) => watch(sheet, &list, n),
     }
 }
