@@ -23,6 +23,9 @@ pub enum Call {
 
 pub const CALLS: [Call; 5] = [Call::Check, Call::Next, Call::Play, Call::Frame, Call::House];
 
+/// A sheet with at most so many links is small: every frame of its order is compared.
+const SMALL: usize = 12;
+
 impl Call {
     /// Whether a refusal of this number (0: acceptance) can come from this call at all.
     fn can_answer(self, number: usize) -> bool {
@@ -194,6 +197,11 @@ impl Differ {
     ) {
         self.play_as_next(sheet, right, next, random);
         let needed = 6 * content.nodes;
+        if right.len() <= SMALL {
+            for stop in 0..=right.len() {
+                self.compare(Input { call: Call::Frame, sheet, order: &right[..stop], room: needed });
+            }
+        }
         for _ in 0..2 {
             let order = &right[..random.below(right.len() + 1)];
             let room = needed + some_excess(random);
