@@ -14,6 +14,7 @@ use Rattle.rules.specs.Lists.{bit, howMany, below}
 use Rattle.rules.specs.Sheet.{Link}
 use Rattle.rules.specs.Desk.{Told, silent, heard, status}
 use Rattle.rules.specs.Messages.{desk, waitsOn, waits, delivered, isFinished}
+use Rattle.rules.proofs.Tests.{clash}
 use Rattle.rules.proofs.Lists.{total-but, count-le, below-length}
 use Rattle.desk.specs.Ways.{toldOf}
 use Rattle.sheet.specs.declared.SheetHeld.{SheetHeld}
@@ -24,7 +25,7 @@ use Rattle.node.proofs.Held.{state-length, state-at, links-few, held-in, stored
 use Rattle.messages.specs.declared.Tally.{Tally}
 use Rattle.messages.specs.declared.Change.{Change}
 use Rattle.messages.specs.declared.Change.the-variants.{Again, Heard, Finished}
-use Rattle.messages.specs.State.{isSilent, isSilentFlow, quietOf, statusBy, fewer, changeOf, stepOf, Spare, Kept, LinkAt, waitingAt, Counted, Stored}
+use Rattle.messages.specs.State.{isSilent, isSilentFlow, quietOf, statusBy, fewer, changeOf, stepOf, Spare, Kept, LinkAt, waitingAt, Counted, StoredAt, Stored}
 use Rattle.messages.proofs.Counts.{count-same, count-but, heard-set}
 use Rattle.messages.proofs.Status.{and-true, heard-told, status-some, status-by, finished-by}
 
@@ -223,12 +224,20 @@ module _ {h : SheetHeld} {tr fs ts ls xs ss os inbox qs : List ℕ} {t : Tally} 
           (omega (arith, more .0, ap bit e))
           (omega (arith, more .1, ap (λ (x : ℕ). bit (eqb (statusBy x) 2)) there, ap bit (status-some (getD qs far 0) (omega (arith, quiet-low known)))))
 
--- ---- what store promises, where a word stood there and where none did
-module _ {j w : ℕ} {fs xs os inbox qs : List ℕ} (word : 0 < w) where
-  pub stored-again : heard (toldOf (getD inbox (getD os j 0) 0)) ≡ true → Stored j w fs xs os inbox qs (set inbox (getD os j 0) w) qs Again
-  stored-again e = record { said = λ kept inside. state-now kept inside word; keeps = λ kept inside. store-again kept inside word e }
+-- ---- what store_at promises, where a word stood there and where none did
+module _ {p b x w : ℕ} {inbox qs : List ℕ} where
+  pub put-again : heard (toldOf (getD inbox p 0)) ≡ true → StoredAt p b x w inbox qs (set inbox p w) qs Again
+  put-again e = record { word = refl; again = λ _. (refl, refl); first = λ f. clash e f }
 
-  pub stored-first : {q : ℕ} {c : Change} → heard (toldOf (getD inbox (getD os j 0) 0)) ≡ false
-      → q ≡ fewer (getD qs (getD fs (getD os j 0) 0) 0) (getD xs (getD os j 0) 0) → c ≡ changeOf q
-      → Stored j w fs xs os inbox qs (set inbox (getD os j 0) w) (set qs (getD fs (getD os j 0) 0) q) c
-  stored-first e a b = record { said = λ kept inside. state-now kept inside word; keeps = λ kept inside. rw (b, a) (store-first kept inside word e) }
+  pub put-first : {q : ℕ} {c : Change} → heard (toldOf (getD inbox p 0)) ≡ false → q ≡ fewer (getD qs b 0) x → c ≡ changeOf q
+      → StoredAt p b x w inbox qs (set inbox p w) (set qs b q) c
+  put-first e n d = record { word = refl; again = λ f. clash f e; first = λ _. (ap (set qs b) n, d ∙ ap changeOf n) }
+
+-- ---- and so store
+pub stored-at : {j w : ℕ} {fs xs os inbox qs inbox' qs' : List ℕ} {c : Change} → 0 < w
+    → StoredAt (getD os j 0) (getD fs (getD os j 0) 0) (getD xs (getD os j 0) 0) w inbox qs inbox' qs' c → Stored j w fs xs os inbox qs inbox' qs' c
+stored-at {j} {w} {fs} {xs} {os} {inbox} {qs} {inbox'} {qs'} {c} word put = go (heard (toldOf (getD inbox (getD os j 0) 0))) refl
+  where
+    go : (b : Bool) → heard (toldOf (getD inbox (getD os j 0) 0)) ≡ b → Stored j w fs xs os inbox qs inbox' qs' c
+    go true e = let r = put .again e in rw (put .word, r .0, r .1) (record { said = λ kept inside. state-now kept inside word; keeps = λ kept inside. store-again kept inside word e })
+    go false e = let r = put .first e in rw (put .word, r .0, r .1) (record { said = λ kept inside. state-now kept inside word; keeps = λ kept inside. store-first kept inside word e })

@@ -1,7 +1,7 @@
 -- The state of a round in slices: what was delivered, how many neighbours each node has still to hear, the tally.
 use Prim.Native.Nat.{ℕ, _+_, _-_, _*_, _%_, _≤_, _<_}
 use mathlib.Core.Path.{_≡_}
-use mathlib.Core.Bool.{Bool, false, cond, _&&_}
+use mathlib.Core.Bool.{Bool, true, false, cond, _&&_}
 use mathlib.Core.List.{List}
 use lib.ListN.{length, getD, set}
 use lib.Dec.{ltb, leb, eqb}
@@ -88,9 +88,19 @@ waitingAt j fs xs os inbox qs = waitsBy (getD qs (getD fs j 0) 0) (getD xs j 0) 
 abbrev pub refusalAt : ℕ → ℕ → List ℕ → List ℕ → List ℕ → List ℕ → List ℕ → ℕ
 refusalAt count j fs xs os inbox qs = cond (leb count j) 12 (cond (waitingAt j fs xs os inbox qs) 0 10)
 
+-- the counts have room for a first word at place p of the inbox, which node b reads by its link with fraction x
+abbrev pub CountedAt : ℕ → ℕ → ℕ → List ℕ → List ℕ → Type 0
+CountedAt p b x inbox qs = heard (toldOf (getD inbox p 0)) ≡ false → 1024 + bit (ltb 0 x) ≤ getD qs b 0
+
 -- the counts have room for a first word on link j
 abbrev pub Counted : ℕ → List ℕ → List ℕ → List ℕ → List ℕ → List ℕ → Type 0
-Counted j fs xs os inbox qs = heard (toldOf (getD inbox (getD os j 0) 0)) ≡ false → 1024 + bit (ltb 0 (getD xs (getD os j 0) 0)) ≤ getD qs (getD fs (getD os j 0) 0) 0
+Counted j fs xs os inbox qs = CountedAt (getD os j 0) (getD fs (getD os j 0) 0) (getD xs (getD os j 0) 0) inbox qs
+
+-- the word w stands at place p of the inbox; where it is the first, node b has one neighbour fewer to hear, over a link with fraction x
+pub record StoredAt (p b x w : ℕ) (inbox qs inbox' qs' : List ℕ) (c : Change) : Type 0 where
+  pub word : inbox' ≡ set inbox p w
+  pub again : heard (toldOf (getD inbox p 0)) ≡ true → (qs' ≡ qs) × (c ≡ Again)
+  pub first : heard (toldOf (getD inbox p 0)) ≡ false → (qs' ≡ set qs b (fewer (getD qs b 0) x)) × (c ≡ changeOf (fewer (getD qs b 0) x))
 
 -- the word w is stored on link j and nothing else changes but the counts and the tally, by c, in every state that the slices keep
 pub record Stored (j w : ℕ) (fs xs os inbox qs inbox' qs' : List ℕ) (c : Change) : Type 0 where

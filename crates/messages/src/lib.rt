@@ -8,7 +8,7 @@ ghost use Prim.Native.Nat.{_+_, _≤_, _<_};
 ghost use lib.Dec.{ltb, eqb};
 ghost use lib.ListN.{length, getD};
 ghost use Rattle.rules.specs.Lists.{bit};
-ghost use Rattle.messages.specs.State.{statusBy, waitsBy, fewer, changeOf, stepOf, LinkAt, waitingAt, refusalAt, Spare, Counted, Stored, rowQuiet, Empty, RowsAt, Begun};
+ghost use Rattle.messages.specs.State.{statusBy, waitsBy, fewer, changeOf, stepOf, LinkAt, waitingAt, refusalAt, Spare, CountedAt, Counted, StoredAt, Stored, rowQuiet, Empty, RowsAt, Begun};
 ghost use Rattle.messages.specs.declared.Ran.the-variants.{Left};
 ghost use Rattle.messages.specs.Round.{Deliverable, Delivered, NetHeld, ListRun};
 
@@ -116,6 +116,22 @@ fn amend(t: &mut Tally, change: Change)
     *t = stepped(*t, change);
 }
 
+// Stores a word at place p of the inbox, which node b reads by its link with fraction x. Only the first word there counts as a delivery.
+fn store_at(p: usize, b: u8, x: Fraction, w: Told, inbox: &mut [u32], quiet: &mut [u32]) -> Change
+    requires { ⌜ (length (now inbox) ≡ 512) × (length (now quiet) ≡ 64) × (p < 512) × (b < 64) × CountedAt p b (x .0) (now inbox) (now quiet) ⌝ }
+    ensures { λ r. ⌜ StoredAt p b (x .0) (w .0) (now (inbox .entry)) (now (quiet .entry)) (now (inbox .exit)) (now (quiet .exit)) r ⌝ }
+{
+    let before = Told(inbox[p]);
+    inbox[p] = w.0;
+    if desk::is_heard(before) {
+        return Change::Again;
+    }
+    let i = b as usize;
+    let q = hear_one(Quiet(quiet[i]), x);
+    quiet[i] = q.0;
+    change_of(q)
+}
+
 // Stores a word on link j, where its far node hears it. Only the first word on a link counts as a delivery.
 pub fn store(
     j: usize,
@@ -130,15 +146,7 @@ pub fn store(
     ensures { λ r. ⌜ Stored j (w .0) (now (from .entry)) (now (fraction .entry)) (now (opposite .entry)) (now (inbox .entry)) (now (quiet .entry)) (now (inbox .exit)) (now (quiet .exit)) r ⌝ }
 {
     let p = opposite[j] as usize;
-    let before = Told(inbox[p]);
-    inbox[p] = w.0;
-    if desk::is_heard(before) {
-        return Change::Again;
-    }
-    let b = from[p] as usize;
-    let q = hear_one(Quiet(quiet[b]), Fraction(fraction[p]));
-    quiet[b] = q.0;
-    change_of(q)
+    store_at(p, from[p], Fraction(fraction[p]), w, inbox, quiet)
 }
 
 fn wide(x: u16) -> u32
