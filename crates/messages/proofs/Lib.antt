@@ -4,4 +4,5 @@ pub mod Storing
 pub mod Beginning
 pub mod Delivering
 pub mod Running
+pub mod Alike
 mod Lent
