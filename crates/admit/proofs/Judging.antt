@@ -19,8 +19,9 @@ use Rattle.sheet.specs.declared.SheetRead.{SheetRead}
 use Rattle.sheet.specs.declared.Found.{Found}
 use Rattle.sheet.specs.Held.{sheetSaid, sheetReadSaid, held, foundSaid, Lent, SheetGiven}
 use Rattle.sheet.proofs.Facts.{SheetFacts, given-facts}
-use Rattle.network.specs.Rows.{Sorted, Rows, Flow, Opposites}
-use Rattle.network.specs.Answers.{Surveyed, Paired}
+use Rattle.links.specs.Opposites.{Opposites, Paired}
+use Rattle.network.specs.Rows.{Sorted, Rows, Flow}
+use Rattle.network.specs.Answers.{Surveyed}
 use Rattle.network.proofs.Rows.{held-length, rising-sorted}
 use Rattle.order.specs.Order as order
 use Rattle.node.specs.Net.{Graph}
@@ -77,8 +78,8 @@ module _ (h : SheetHeld) (tr fs ts ls xs : List ℕ) where
       at-8 e q ordered = ap by-8 (ordered .said (s .traffic) ls) ∙ ap (λ (x : Found). by-7 (foundSaid x)) (sym q) ∙ at-7 e
 
 -- what 8's judge asks for
-pub order-asked : (h : SheetHeld) {fs ts xs ss gs ps os ord turn : List ℕ} {w : Found} → Room ss gs ps os ord turn → Surveyed w (h .head) (h .links) fs xs ss gs ps
-    → JudgeAsked h fs ts xs → order.Graph (h .head) (h .links) ss gs ps fs ts xs ord turn
+pub order-asked : (h : SheetHeld) {fs ts ls xs ss gs ps os ord turn : List ℕ} {w : Found} → Room ss gs ps os ord turn → Surveyed w (h .head) (h .links) fs xs ss gs ps
+    → JudgeAsked h fs ts ls xs → order.Graph (h .head) (h .links) ss gs ps fs ts xs ord turn
 order-asked h room surveyed asked = record {
   links = record {
     nodes = asked .few;
@@ -145,12 +146,13 @@ module _ (b : List ℕ) {tr fs ts ls xs : List ℕ} (fit : AreBytes b) {g : Shee
     facts : SheetFacts b h tr fs ts ls xs
     facts = given-facts b fit given e
 
-    pub judge-asked : JudgeAsked h fs ts xs
+    pub judge-asked : JudgeAsked h fs ts ls xs
     judge-asked = record {
       few = facts .few;
       many = facts .many;
       froms = lent .froms;
       tos = lent .tos;
+      loads = lent .loads;
       fractions = lent .fractions;
       sorted = rising-sorted (h .links) fs ts ls xs (facts .sane .rising) (facts .from-in);
       to-in = facts .to-in;

@@ -9,7 +9,8 @@ use Rattle.rules.specs.Judge.{Verdict, refused, accepted, judge}
 use Rattle.rules.specs.Check.{check}
 use Rattle.sheet.specs.declared.SheetHeld.{SheetHeld}
 use Rattle.sheet.specs.Held.{sheetSaid}
-use Rattle.network.specs.Rows.{Sorted, Rows, Flow, Opposites}
+use Rattle.links.specs.Opposites.{Opposites}
+use Rattle.network.specs.Rows.{Sorted, Rows, Flow}
 use Rattle.order.specs.Order.{Order}
 use Rattle.node.specs.Net.{Graph}
 use Rattle.admit.specs.declared.Opened.{Opened}
@@ -40,11 +41,12 @@ workedIf (Opened.Refused n p) fs ts xs ss gs ps os ord turn = Unit {0}
 workedIf (Opened.Accepted h) fs ts xs ss gs ps os ord turn = Worked h fs ts xs ss gs ps os ord turn
 
 -- what 1 to 5 leave of the slices
-pub record JudgeAsked (h : SheetHeld) (fs ts xs : List ℕ) : Type 0 where
+pub record JudgeAsked (h : SheetHeld) (fs ts ls xs : List ℕ) : Type 0 where
   pub few : h .head .nodes ≤ 64
   pub many : h .links ≤ 512
   pub froms : length fs ≡ 512
   pub tos : length ts ≡ 512
+  pub loads : length ls ≡ 512
   pub fractions : length xs ≡ 512
   pub sorted : Sorted (h .head .nodes) (h .links) fs
   pub to-in : (j : ℕ) → j < h .links → getD ts j 0 < h .head .nodes

@@ -19,6 +19,7 @@ fn judge_whole(
     h: SheetHeld,
     from: &[u8],
     to: &[u8],
+    load: &[u8],
     fraction: &[u32],
     starts: &mut [u16],
     flow_starts: &mut [u16],
@@ -27,13 +28,22 @@ fn judge_whole(
     order: &mut [u8],
     turn: &mut [u8],
 ) -> Opened
-    requires { ⌜ JudgeAsked h (now from) (now to) (now fraction) × Room (now starts) (now «flow_starts») (now flow) (now opposite) (now order) (now turn) ⌝ }
+    requires { ⌜ JudgeAsked h (now from) (now to) (now load) (now fraction) × Room (now starts) (now «flow_starts») (now flow) (now opposite) (now order) (now turn) ⌝ }
     ensures { λ r. ⌜ Judged r h (now (from .entry)) (now (to .entry)) (now (fraction .entry)) (now (starts .exit)) (now («flow_starts» .exit)) (now (flow .exit)) (now (opposite .exit)) (now (order .exit)) (now (turn .exit)) ⌝ }
 {
     let head = h.head;
     let count = h.links;
     let wrong = network::survey(head, count, from, fraction, starts, flow_starts, flow);
-    let alone = network::pair_links(head.nodes, count, starts, from, to, opposite);
+    let alone = links::pair_links(
+        head.nodes,
+        count,
+        starts,
+        from,
+        to,
+        load,
+        fraction,
+        opposite,
+    );
     match alone {
         Found::At(j) => {
             return Opened::Refused(6, j);
@@ -88,6 +98,7 @@ pub fn open(
             h,
             from,
             to,
+            load,
             fraction,
             starts,
             flow_starts,

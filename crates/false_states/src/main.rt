@@ -63,6 +63,8 @@ fn sent_after(
     h: SheetHeld,
     traffic: &[u32],
     from: &[u8],
+    to: &[u8],
+    load: &[u8],
     starts: &[u16],
     flow_starts: &[u16],
     flow: &[u16],
@@ -72,7 +74,7 @@ fn sent_after(
     inbox: &mut [u32],
     quiet: &mut [u32],
 ) -> Told
-    requires { ⌜ SentAsked j (w .0) k h (now traffic) (now from) (now starts) (now «flow_starts») (now flow) (now line) (now fraction) (now opposite) (now inbox) (now quiet) ⌝ }
+    requires { ⌜ SentAsked j (w .0) k h (now traffic) (now from) (now starts) (now «flow_starts») (now flow) (now line) (now fraction) (now opposite) (now inbox) (now quiet) × (length (now to) ≡ 512) × (length (now load) ≡ 512) ⌝ }
     ensures { λ r. ⌜ Sent (r .0) j (w .0) k h (now (traffic .entry)) (now (from .entry)) (now (starts .entry)) (now («flow_starts» .entry)) (now (flow .entry)) (now (line .entry)) (now (fraction .entry)) (now (opposite .entry)) ⌝ }
 {
     let begun = messages::begin(h.head.nodes, starts, flow_starts, quiet);
@@ -83,6 +85,8 @@ fn sent_after(
         messages::stepped(begun, change),
         traffic,
         from,
+        to,
+        load,
         starts,
         flow_starts,
         flow,
@@ -103,6 +107,8 @@ fn take_after(
     h: SheetHeld,
     traffic: &[u32],
     from: &[u8],
+    to: &[u8],
+    load: &[u8],
     starts: &[u16],
     flow_starts: &[u16],
     flow: &[u16],
@@ -112,7 +118,7 @@ fn take_after(
     quiet: &mut [u32],
     fraction: &mut [u32],
 ) -> bool
-    requires { ⌜ RowsAsked j (w .0) h (now traffic) (now from) (now starts) (now «flow_starts») (now flow) (now line) (now fraction) (now opposite) (now inbox) (now quiet) ⌝ }
+    requires { ⌜ RowsAsked j (w .0) h (now traffic) (now from) (now starts) (now «flow_starts») (now flow) (now line) (now fraction) (now opposite) (now inbox) (now quiet) × (length (now to) ≡ 512) × (length (now load) ≡ 512) ⌝ }
     ensures { λ r. ⌜ RowsTaken r (now (list .entry)) j (w .0) h (now (traffic .entry)) (now (from .entry)) (now (starts .entry)) (now («flow_starts» .entry)) (now (flow .entry)) (now (line .entry)) (now (opposite .entry)) (now (fraction .entry)) (now (fraction .exit)) ⌝ }
 {
     let ran = messages::run_list(
@@ -120,6 +126,8 @@ fn take_after(
         list,
         traffic,
         from,
+        to,
+        load,
         starts,
         flow_starts,
         flow,
@@ -159,6 +167,7 @@ fn sent_with(
     h: SheetHeld,
     traffic: &[u32],
     from: &[u8],
+    to: &[u8],
     load: &[u8],
     starts: &[u16],
     flow_starts: &[u16],
@@ -166,7 +175,7 @@ fn sent_with(
     fraction: &[u32],
     opposite: &[u16],
 ) -> Told
-    requires { ⌜ AnyAccepted h (now traffic) (now from) (now load) (now fraction) (now starts) (now «flow_starts») (now flow) (now opposite) × (j < h .links) × (k < h .links) × (m .delay .0 ≤ largestStored) ⌝ }
+    requires { ⌜ AnyAccepted h (now traffic) (now from) (now load) (now fraction) (now starts) (now «flow_starts») (now flow) (now opposite) × (j < h .links) × (k < h .links) × (m .delay .0 ≤ largestStored) × (length (now to) ≡ 512) ⌝ }
     ensures { λ r. ⌜ SentWith (r .0) j m k h (now (traffic .entry)) (now (from .entry)) (now (load .entry)) (now (fraction .entry)) (now (starts .entry)) (now («flow_starts» .entry)) (now (flow .entry)) (now (opposite .entry)) ⌝ }
 {
     let mut line = [0u32; 512];
@@ -181,6 +190,8 @@ fn sent_with(
         h,
         traffic,
         from,
+        to,
+        load,
         starts,
         flow_starts,
         flow,
@@ -199,6 +210,7 @@ fn taken_with(
     h: SheetHeld,
     traffic: &[u32],
     from: &[u8],
+    to: &[u8],
     load: &[u8],
     starts: &[u16],
     flow_starts: &[u16],
@@ -206,7 +218,7 @@ fn taken_with(
     opposite: &[u16],
     fraction: &mut [u32],
 ) -> bool
-    requires { ⌜ AnyAccepted h (now traffic) (now from) (now load) (now fraction) (now starts) (now «flow_starts») (now flow) (now opposite) × (j < h .links) × (m .delay .0 ≤ largestStored) ⌝ }
+    requires { ⌜ AnyAccepted h (now traffic) (now from) (now load) (now fraction) (now starts) (now «flow_starts») (now flow) (now opposite) × (j < h .links) × (m .delay .0 ≤ largestStored) × (length (now to) ≡ 512) ⌝ }
     ensures { λ r. ⌜ TakenWith r j m h (now (traffic .entry)) (now (from .entry)) (now (load .entry)) (now (fraction .entry)) (now (starts .entry)) (now («flow_starts» .entry)) (now (flow .entry)) (now (opposite .entry)) (now (fraction .exit)) ⌝ }
 {
     let mut line = [0u32; 512];
@@ -235,6 +247,8 @@ fn taken_with(
         h,
         traffic,
         from,
+        to,
+        load,
         starts,
         flow_starts,
         flow,
@@ -294,6 +308,7 @@ fn work_out(question: Question, sheet: &[u8], j: usize, m: Message, fraction: &m
                 h,
                 &traffic,
                 &from,
+                &to,
                 &load,
                 &starts,
                 &flow_starts,
@@ -310,6 +325,7 @@ fn work_out(question: Question, sheet: &[u8], j: usize, m: Message, fraction: &m
                 h,
                 &traffic,
                 &from,
+                &to,
                 &load,
                 &starts,
                 &flow_starts,

@@ -15,13 +15,14 @@ use Rattle.rules.proofs.Lists.{map-eq, in-below}
 use Rattle.rules.proofs.Sound.{Sound}
 use Rattle.sheet.specs.declared.SheetHeld.{SheetHeld}
 use Rattle.sheet.specs.Held.{linkOf, heldAt, held, headSaid, sheetSaid}
-use Rattle.network.specs.Rows.{Rows, Opposites}
+use Rattle.links.specs.Opposites.{Opposites}
+use Rattle.network.specs.Rows.{Rows}
 use Rattle.node.specs.Net.{stateSaid, Graph, Net}
 use Rattle.messages.specs.declared.Tally.{Tally}
 use Rattle.messages.specs.declared.Ran.{Ran}
 use Rattle.messages.specs.declared.Ran.the-variants.{Stopped, Left}
-use Rattle.messages.specs.State.{Kept, waitsBy, waitingAt, refusalAt, Alike}
-use Rattle.messages.specs.Round.{Delivered, RanKept, ListRun}
+use Rattle.messages.specs.State.{Kept, LinkAt, waitsBy, waitingAt, refusalAt, AlikeAt, Alike}
+use Rattle.messages.specs.Round.{Deliverable, Delivered, NetHeld, RanKept, ListRun}
 
 module _ {count : ℕ} {fs fs' : List ℕ} (alike : Alike count fs fs') where
   pub alike-turned : length fs ≡ 512 → Alike count fs' fs
@@ -108,8 +109,46 @@ module _ {h : SheetHeld} {tr fs fs' ss gs ps line xs os : List ℕ} where
       back ts ls turned (Stopped m k) kept = tt
       back ts ls turned (Left t) kept = kept-alike kept turned
 
--- ---- a refusal, by the fractions
-pub refusal-alike : (count j : ℕ) (fs xs xs' os inbox qs : List ℕ) → ((k : ℕ) → k < count → getD xs k 0 ≡ getD xs' k 0)
+-- ---- what is asked of the first list is given of the second
+pub held-net-alike : {h : SheetHeld} {tr fs fs' ss gs ps line xs os : List ℕ} → NetHeld h tr fs ss gs ps line xs os → Alike (h .links) fs fs' → NetHeld h tr fs' ss gs ps line xs os
+held-net-alike held alike = record { ts = held .ts; ls = held .ls; net = net-alike (held .net) alike }
+
+pub deliverable-alike : {step j : ℕ} {tr fs fs' ss gs ps line xs os inbox qs : List ℕ} {t : Tally} → Deliverable step j tr fs ss gs ps line xs os inbox qs t
+    → AlikeAt j fs fs' → AlikeAt (getD os j 0) fs fs' → length fs' ≡ 512 → Deliverable step j tr fs' ss gs ps line xs os inbox qs t
+deliverable-alike d near far size = record {
+  step-top = d .step-top;
+  traffic = d .traffic;
+  link = record {
+    from-size = size;
+    fraction-size = d .link .fraction-size;
+    opposite-size = d .link .opposite-size;
+    inbox-size = d .link .inbox-size;
+    quiet-size = d .link .quiet-size;
+    low = d .link .low;
+    place = d .link .place;
+    near = omega (arith, near, d .link .near);
+    far = omega (arith, far, d .link .far);
+  };
+  row = rw (sym near) (d .row);
+  counted = rw (sym far) (d .counted);
+  spare = d .spare;
+}
+
+-- ---- a link and a refusal, by the fractions
+pub link-alike : {j : ℕ} {fs xs xs' os inbox qs : List ℕ} → LinkAt j fs xs os inbox qs → length xs' ≡ 512 → LinkAt j fs xs' os inbox qs
+link-alike l size = record {
+  from-size = l .from-size;
+  fraction-size = size;
+  opposite-size = l .opposite-size;
+  inbox-size = l .inbox-size;
+  quiet-size = l .quiet-size;
+  low = l .low;
+  place = l .place;
+  near = l .near;
+  far = l .far;
+}
+
+pub refusal-alike : (count j : ℕ) (fs xs xs' os inbox qs : List ℕ) → ((k : ℕ) → k < count → AlikeAt k xs xs')
     → refusalAt count j fs xs os inbox qs ≡ refusalAt count j fs xs' os inbox qs
 refusal-alike count j fs xs xs' os inbox qs same = go (leb count j) refl
   where

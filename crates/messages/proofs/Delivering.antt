@@ -5,10 +5,10 @@ use native.Mathlib.Decide.{decLt}
 use mathlib.Core.Path.{_≡_, refl, sym, ap, _∙_}
 use mathlib.Core.Bool.{Bool, true, false}
 use mathlib.Core.List.{List}
-use lib.ListN.{getD, set}
+use lib.ListN.{length, getD, set}
 use lib.Dec.{eqb}
 use borrow.Author.Tests.{eqb-true}
-use Rattle.rules.specs.Sheet.{Link, Sheet}
+use Rattle.rules.specs.Sheet.{Link, Sheet, largestStep}
 use Rattle.rules.specs.Desk.{Told, silent, told, heard, delayTold, message}
 use Rattle.rules.specs.Messages.{desk, linkOf, sender}
 use Rattle.rules.proofs.Right.{Right}
@@ -18,13 +18,13 @@ use Rattle.desk.specs.Ways.{toldOf, messageSaid}
 use Rattle.sheet.specs.declared.SheetHeld.{SheetHeld}
 use Rattle.sheet.specs.Held.{sheetSaid}
 use Rattle.network.proofs.Rows.{held-length, held-at}
-use Rattle.node.specs.Net.{Tells, stateSaid, SmallInbox, Net}
+use Rattle.node.specs.Net.{RowAt, Tells, stateSaid, SmallInbox, Net}
 use Rattle.node.proofs.Held.{state-at, links-few, turns, desk-held, row-held}
 use Rattle.messages.specs.declared.Tally.{Tally}
 use Rattle.messages.specs.declared.Change.{Change}
-use Rattle.messages.specs.State.{stepOf, Kept, Stored}
+use Rattle.messages.specs.State.{stepOf, Kept, CountedAt, StoredAt, Stored}
 use Rattle.messages.specs.Round.{Deliverable, Delivered}
-use Rattle.messages.proofs.Storing.{from-in, link-at, counted-kept, spare-kept}
+use Rattle.messages.proofs.Storing.{from-in, link-at, counted-kept, spare-kept, stored-at}
 
 module _ {h : SheetHeld} {tr fs ts ls xs ss gs ps os line : List ℕ} (net : Net h tr fs ts ls xs ss gs ps os line) {inbox qs : List ℕ} {t : Tally} (kept : Kept h tr fs ts ls xs ss os inbox qs t) {j : ℕ} (inside : j < h .links) where
   pub deliverable : SmallInbox inbox → Deliverable (h .head .step .0) j tr fs ss gs ps line xs os inbox qs t
@@ -53,6 +53,25 @@ delivered-is {h} {j} {os = os} {inbox = inbox} tells word put amended = record {
   said = λ net kept inside. put .said kept inside ∙ ap (set (stateSaid (h .links) os inbox) j) (word ∙ message-held net kept inside tells);
   keeps = λ net kept inside. rw amended (put .keeps kept inside);
 }
+
+-- ---- the same where the nodes and the fraction were read from the list of the links: i is link j's node, b its far node, x the fraction there
+module _ {step j i : ℕ} {tr fs ss gs ps line xs os inbox qs : List ℕ} {t : Tally} (d : Deliverable step j tr fs ss gs ps line xs os inbox qs t)
+    (near : i ≡ getD fs j 0) where
+  pub node-low : i < 64
+  node-low = omega (arith, near, d .link .near)
+
+  pub node-row : RowAt i ss gs ps line xs inbox × (step ≤ largestStep)
+  node-row = (rw near (d .row), d .step-top)
+
+  module _ {b x : ℕ} (far : b ≡ getD fs (getD os j 0) 0) (part : x ≡ getD xs (getD os j 0) 0) where
+    pub far-asked : (length inbox ≡ 512) × (length qs ≡ 64) × (getD os j 0 < 512) × (b < 64) × CountedAt (getD os j 0) b x inbox qs
+    far-asked = (d .link .inbox-size, d .link .quiet-size, d .link .place, omega (arith, far, d .link .far), rw (far, part) (d .counted))
+
+pub delivered-by : {h : SheetHeld} {j i b x w : ℕ} {tr fs ss gs ps line xs os inbox qs inbox' qs' : List ℕ} {t t' : Tally} {m : Message} {c : Change}
+    → i ≡ getD fs j 0 → b ≡ getD fs (getD os j 0) 0 → x ≡ getD xs (getD os j 0) 0 → 0 < w
+    → Tells m (h .head .step .0) (getD tr i 0) ss line xs inbox i → toldOf w ≡ messageSaid m
+    → StoredAt (getD os j 0) b x w inbox qs inbox' qs' c → t' ≡ stepOf t c → Delivered h j tr fs ss gs ps line xs os inbox qs inbox' qs' t t'
+delivered-by near far part some tells word put amended = delivered-is (rw near at tells) word (stored-at some (rw (far, part) at put)) amended
 
 -- ---- in a right state the stored delays are small
 told-delay : (x : ℕ) → delayTold (toldOf x) ≡ x / 4

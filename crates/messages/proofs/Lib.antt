@@ -6,3 +6,4 @@ pub mod Delivering
 pub mod Running
 pub mod Alike
 mod Lent
+pub mod Listed

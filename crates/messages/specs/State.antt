@@ -109,9 +109,13 @@ pub record Stored (j w : ℕ) (fs xs os inbox qs inbox' qs' : List ℕ) (c : Cha
   pub keeps : {h : SheetHeld} {tr ts ls ss : List ℕ} {t : Tally} → Kept h tr fs ts ls xs ss os inbox qs t → j < h .links
       → Kept h tr fs ts ls xs ss os inbox' qs' (stepOf t c)
 
+-- two lists have the same at place k
+abbrev pub AlikeAt : ℕ → List ℕ → List ℕ → Type 0
+AlikeAt k xs ys = getD xs k 0 ≡ getD ys k 0
+
 -- the near nodes of count links, in two lists that may differ behind them
 pub record Alike (count : ℕ) (fs gs : List ℕ) : Type 0 where
-  pub same : (j : ℕ) → j < count → getD fs j 0 ≡ getD gs j 0
+  pub same : (j : ℕ) → j < count → AlikeAt j fs gs
   pub size : length gs ≡ 512
 
 -- the row lengths of n nodes, and how many of each flow, as counts of neighbours to hear

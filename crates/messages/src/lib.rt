@@ -1,14 +1,16 @@
 // The round as messages: the state in slices that the caller lends, the one delivery function, and a list of deliveries.
 use desk::Told;
+use links::Link;
 use numbers::Fraction;
 use numbers::Traffic;
 use sheet::SheetHeld;
 ghost use mathlib.Core.Path.{_≡_};
-ghost use Prim.Native.Nat.{_+_, _≤_, _<_};
+ghost use Prim.Native.Nat.{ℕ, _+_, _≤_, _<_};
 ghost use lib.Dec.{ltb, eqb};
 ghost use lib.ListN.{length, getD};
 ghost use Rattle.rules.specs.Lists.{bit};
-ghost use Rattle.messages.specs.State.{statusBy, waitsBy, fewer, changeOf, stepOf, LinkAt, waitingAt, refusalAt, Spare, CountedAt, Counted, StoredAt, Stored, rowQuiet, Empty, RowsAt, Begun};
+ghost use Rattle.links.specs.List.{froms, fractions};
+ghost use Rattle.messages.specs.State.{AlikeAt, statusBy, waitsBy, fewer, changeOf, stepOf, LinkAt, waitingAt, refusalAt, Spare, CountedAt, Counted, StoredAt, Stored, rowQuiet, Empty, RowsAt, Begun};
 ghost use Rattle.messages.specs.declared.Ran.the-variants.{Left};
 ghost use Rattle.messages.specs.Round.{Deliverable, Delivered, NetHeld, ListRun};
 
@@ -198,7 +200,7 @@ pub fn deliver(
     j: usize,
     t: &mut Tally,
     traffic: &[u32],
-    from: &[u8],
+    links: &[Link],
     starts: &[u16],
     flow_starts: &[u16],
     flow: &[u16],
@@ -208,10 +210,10 @@ pub fn deliver(
     inbox: &mut [u32],
     quiet: &mut [u32],
 )
-    requires { ⌜ Deliverable (h .head .step .0) j (now traffic) (now from) (now starts) (now «flow_starts») (now flow) (now line) (now fraction) (now opposite) (now inbox) (now quiet) (now t) ⌝ }
-    ensures { λ _. ⌜ Delivered h j (now (traffic .entry)) (now (from .entry)) (now (starts .entry)) (now («flow_starts» .entry)) (now (flow .entry)) (now (line .entry)) (now (fraction .entry)) (now (opposite .entry)) (now (inbox .entry)) (now (quiet .entry)) (now (inbox .exit)) (now (quiet .exit)) (now (t .entry)) (now (t .exit)) ⌝ }
+    requires { ⌜ Deliverable (h .head .step .0) j (now traffic) (froms (now links)) (now starts) (now «flow_starts») (now flow) (now line) (now fraction) (now opposite) (now inbox) (now quiet) (now t) × AlikeAt (getD (now opposite) j 0) (fractions (now links)) (now fraction) ⌝ }
+    ensures { λ _. ⌜ Delivered h j (now (traffic .entry)) (froms (now (links .entry))) (now (starts .entry)) (now («flow_starts» .entry)) (now (flow .entry)) (now (line .entry)) (now (fraction .entry)) (now (opposite .entry)) (now (inbox .entry)) (now (quiet .entry)) (now (inbox .exit)) (now (quiet .exit)) (now (t .entry)) (now (t .exit)) ⌝ }
 {
-    let i = from[j];
+    let i = links::from_of(links::link_at(links, j));
     let k = i as usize;
     let m = node::message_of(
         h.head.step,
@@ -224,17 +226,28 @@ pub fn deliver(
         fraction,
         inbox,
     );
-    let change = store(j, desk::told_by(m), from, fraction, opposite, inbox, quiet);
+    let p = opposite[j] as usize;
+    let back = links::link_at(links, p);
+    let change = store_at(
+        p,
+        links::from_of(back),
+        links::fraction_of(back),
+        desk::told_by(m),
+        inbox,
+        quiet,
+    );
     amend(t, change);
 }
 
-// One delivery, for a caller that holds the tally by value. Such a caller lends none, so Rattle derives it.
+// One delivery, for a caller that holds the tally by value and the links in slices. Such a caller lends no struct, so Rattle derives it.
 pub fn deliver_once(
     h: SheetHeld,
     j: usize,
     t: Tally,
     traffic: &[u32],
     from: &[u8],
+    to: &[u8],
+    load: &[u8],
     starts: &[u16],
     flow_starts: &[u16],
     flow: &[u16],
@@ -244,16 +257,17 @@ pub fn deliver_once(
     inbox: &mut [u32],
     quiet: &mut [u32],
 ) -> Tally
-    requires { ⌜ Deliverable (h .head .step .0) j (now traffic) (now from) (now starts) (now «flow_starts») (now flow) (now line) (now fraction) (now opposite) (now inbox) (now quiet) t ⌝ }
+    requires { ⌜ Deliverable (h .head .step .0) j (now traffic) (now from) (now starts) (now «flow_starts») (now flow) (now line) (now fraction) (now opposite) (now inbox) (now quiet) t × (h .links ≤ 512) × (j < h .links) × (getD (now opposite) j 0 < h .links) × (length (now to) ≡ 512) × (length (now load) ≡ 512) ⌝ }
     ensures { λ r. ⌜ Delivered h j (now (traffic .entry)) (now (from .entry)) (now (starts .entry)) (now («flow_starts» .entry)) (now (flow .entry)) (now (line .entry)) (now (fraction .entry)) (now (opposite .entry)) (now (inbox .entry)) (now (quiet .entry)) (now (inbox .exit)) (now (quiet .exit)) t r ⌝ }
 {
+    let links = links::list(h.links, from, to, load, fraction);
     let mut tally = t;
     deliver(
         h,
         j,
         &mut tally,
         traffic,
-        from,
+        &links,
         starts,
         flow_starts,
         flow,
@@ -282,30 +296,32 @@ fn left(t: Tally) -> Ran
 fn refusal_at(
     count: usize,
     j: usize,
-    from: &[u8],
-    fraction: &[u32],
+    links: &[Link],
     opposite: &[u16],
     inbox: &[u32],
     quiet: &[u32],
 ) -> u8
-    requires { ⌜ (j < count → LinkAt j (now from) (now fraction) (now opposite) (now inbox) (now quiet)) ⌝ }
-    ensures { λ r. ⌜ r ≡ refusalAt count j (now (from .entry)) (now (fraction .entry)) (now (opposite .entry)) (now (inbox .entry)) (now (quiet .entry)) ⌝ }
+    requires { ⌜ (j < count → LinkAt j (froms (now links)) (fractions (now links)) (now opposite) (now inbox) (now quiet)) ⌝ }
+    ensures { λ r. ⌜ r ≡ refusalAt count j (froms (now (links .entry))) (fractions (now (links .entry))) (now (opposite .entry)) (now (inbox .entry)) (now (quiet .entry)) ⌝ }
 {
     if count <= j {
         return 12;
     }
-    if is_waiting(j, from, fraction, opposite, inbox, quiet) {
+    let l = links::link_at(links, j);
+    let i = links::from_of(l) as usize;
+    let p = opposite[j] as usize;
+    if may_send(Quiet(quiet[i]), links::fraction_of(l), Told(inbox[p])) {
         return 0;
     }
     10
 }
 
-// The deliveries of a list, from the beginning.
-pub fn run_list(
+// The deliveries of a list, from the beginning, over the list of the links.
+fn run_links(
     h: SheetHeld,
     order: &[u16],
     traffic: &[u32],
-    from: &[u8],
+    links: &[Link],
     starts: &[u16],
     flow_starts: &[u16],
     flow: &[u16],
@@ -315,15 +331,15 @@ pub fn run_list(
     inbox: &mut [u32],
     quiet: &mut [u32],
 ) -> Ran
-    requires { ⌜ NetHeld h (now traffic) (now from) (now starts) (now «flow_starts») (now flow) (now line) (now fraction) (now opposite) × Empty (now inbox) × (length (now quiet) ≡ 64) ⌝ }
-    ensures { λ r. ⌜ ListRun r h (now (order .entry)) (now (traffic .entry)) (now (from .entry)) (now (starts .entry)) (now («flow_starts» .entry)) (now (flow .entry)) (now (line .entry)) (now (fraction .entry)) (now (opposite .entry)) (now (inbox .exit)) (now (quiet .exit)) ⌝ }
+    requires { ⌜ NetHeld h (now traffic) (froms (now links)) (now starts) (now «flow_starts») (now flow) (now line) (now fraction) (now opposite) × Empty (now inbox) × (length (now quiet) ≡ 64) × ((k : ℕ) → k < h .links → AlikeAt k (fractions (now links)) (now fraction)) ⌝ }
+    ensures { λ r. ⌜ ListRun r h (now (order .entry)) (now (traffic .entry)) (froms (now (links .entry))) (now (starts .entry)) (now («flow_starts» .entry)) (now (flow .entry)) (now (line .entry)) (now (fraction .entry)) (now (opposite .entry)) (now (inbox .exit)) (now (quiet .exit)) ⌝ }
 {
     let count = h.links;
     let mut t = begin(h.head.nodes, starts, flow_starts, quiet);
     let mut k: usize = 0;
     while k < order.len() {
         let j = order[k] as usize;
-        let number = refusal_at(count, j, from, fraction, opposite, inbox, quiet);
+        let number = refusal_at(count, j, links, opposite, inbox, quiet);
         if 0 < number {
             return Ran::Stopped(number, k);
         }
@@ -332,7 +348,7 @@ pub fn run_list(
             j,
             &mut t,
             traffic,
-            from,
+            links,
             starts,
             flow_starts,
             flow,
@@ -345,4 +361,41 @@ pub fn run_list(
         k += 1;
     }
     left(t)
+}
+
+// The deliveries of a list, from the beginning. The links, which come in any order then, are put into one list of records first.
+pub fn run_list(
+    h: SheetHeld,
+    order: &[u16],
+    traffic: &[u32],
+    from: &[u8],
+    to: &[u8],
+    load: &[u8],
+    starts: &[u16],
+    flow_starts: &[u16],
+    flow: &[u16],
+    line: &[u32],
+    fraction: &[u32],
+    opposite: &[u16],
+    inbox: &mut [u32],
+    quiet: &mut [u32],
+) -> Ran
+    requires { ⌜ NetHeld h (now traffic) (now from) (now starts) (now «flow_starts») (now flow) (now line) (now fraction) (now opposite) × Empty (now inbox) × (length (now quiet) ≡ 64) × (length (now to) ≡ 512) × (length (now load) ≡ 512) ⌝ }
+    ensures { λ r. ⌜ ListRun r h (now (order .entry)) (now (traffic .entry)) (now (from .entry)) (now (starts .entry)) (now («flow_starts» .entry)) (now (flow .entry)) (now (line .entry)) (now (fraction .entry)) (now (opposite .entry)) (now (inbox .exit)) (now (quiet .exit)) ⌝ }
+{
+    let links = links::list(h.links, from, to, load, fraction);
+    run_links(
+        h,
+        order,
+        traffic,
+        &links,
+        starts,
+        flow_starts,
+        flow,
+        line,
+        fraction,
+        opposite,
+        inbox,
+        quiet,
+    )
 }

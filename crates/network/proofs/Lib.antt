@@ -1,4 +1,3 @@
 pub mod Parts
 pub mod Rows
 pub mod Surveying
-pub mod Pairing

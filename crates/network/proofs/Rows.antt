@@ -20,7 +20,8 @@ use Rattle.rules.proofs.First.{first-iff}
 use Rattle.rules.proofs.Order.{Rising, rises-less, once}
 use Rattle.rules.proofs.Local.{opposite-ends}
 use Rattle.sheet.specs.Held.{heldAt, held}
-use Rattle.network.specs.Rows.{part, Sorted, Rows, Opposites}
+use Rattle.links.specs.Opposites.{Opposites}
+use Rattle.network.specs.Rows.{part, Sorted, Rows}
 use Rattle.network.proofs.Parts.{keep-range, total-part}
 
 -- ---- what stands from a up to e

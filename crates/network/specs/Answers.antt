@@ -1,18 +1,18 @@
 -- What the code answers.
 use Prim.Native.Nat.{ℕ, _≤_, _<_}
 use mathlib.Core.Path.{_≡_}
-use mathlib.Core.Bool.{Bool, cond, not, _&&_}
+use mathlib.Core.Bool.{cond, not}
 use mathlib.Core.List.{List}
 use lib.ListN.{length, getD, take}
 use lib.Dec.{eqb}
 use Rattle.rules.specs.Lists.{total, below, Place, nowhere, at, first}
 use Rattle.rules.specs.Sheet.{whole}
-use Rattle.rules.specs.Judge.{paired, adds}
+use Rattle.rules.specs.Judge.{adds}
 use Rattle.rules.specs.Check.{sheetWith}
 use Rattle.sheet.specs.Held.{headSaid, held, foundSaid}
 use Rattle.sheet.specs.declared.HeadHeld.{HeadHeld}
 use Rattle.sheet.specs.declared.Found.{Found}
-use Rattle.network.specs.Rows.{part, flowing, Rows, Flow, Opposites}
+use Rattle.network.specs.Rows.{part, flowing, Rows, Flow}
 use Rattle.network.specs.declared.RowHeld.{RowHeld}
 
 -- ---- rows
@@ -48,14 +48,3 @@ pub record Surveyed (r : Found) (h : HeadHeld) (count : ℕ) (fs xs ss gs ps : L
   pub flow : Flow (h .nodes) ss xs gs ps
   pub said : (traffic ts ls : List ℕ) → foundSaid r ≡ first (λ i. not (adds (sheetWith (headSaid h) traffic (held count fs ts ls xs)) i)) (below (h .nodes))
   pub sizes : (length ss ≡ 65) × (length gs ≡ 65) × (length ps ≡ 512)
-
--- ---- opposites
--- link i runs from node a to node z
-abbrev pub runs : List ℕ → List ℕ → ℕ → ℕ → ℕ → Bool
-runs fs ts a z i = eqb (getD fs i 0) a && eqb (getD ts i 0) z
-
--- 6's place, in which the other lists play no part; where there is none, each link's opposite is told
-pub record Paired (r : Found) (count : ℕ) (fs ts os : List ℕ) : Type 0 where
-  pub said : (ls xs : List ℕ) → foundSaid r ≡ first (λ l. not (paired (held count fs ts ls xs) l)) (held count fs ts ls xs)
-  pub told : foundSaid r ≡ nowhere → Opposites count fs ts os
-  pub size : length os ≡ 512

@@ -31,9 +31,3 @@ pub record Flow (n : ℕ) (ss xs gs ps : List ℕ) : Type 0 where
   pub rise : (i : ℕ) → i < n → getD gs i 0 ≤ getD gs (i + 1) 0
   pub top : (i : ℕ) → i ≤ n → getD gs i 0 ≤ 512
   pub places : (i : ℕ) → i < n → part ps (getD gs i 0) (getD gs (i + 1) 0) ≡ flowing (part xs (getD ss i 0) (getD ss (i + 1) 0))
-
--- the opposite of link j is link os[j]
-pub record Opposites (count : ℕ) (fs ts os : List ℕ) : Type 0 where
-  pub low : (j : ℕ) → j < count → getD os j 0 < count
-  pub from : (j : ℕ) → j < count → getD fs (getD os j 0) 0 ≡ getD ts j 0
-  pub to : (j : ℕ) → j < count → getD ts (getD os j 0) 0 ≡ getD fs j 0

@@ -1,9 +1,9 @@
-// What a sheet's links say of its nodes: the rows, what flows in them, and each link's opposite.
+// What a sheet's links say of its nodes: the rows, and what flows in them.
 use numbers::Fraction;
 use sheet::Found;
 use sheet::HeadHeld;
 ghost use mathlib.Core.Path.{_≡_};
-ghost use mathlib.Core.Bool.{true, cond, _&&_};
+ghost use mathlib.Core.Bool.{cond};
 ghost use Prim.Native.Nat.{ℕ, _≤_, _<_};
 ghost use lib.ListN.{length, getD};
 ghost use lib.Dec.{ltb, eqb};
@@ -11,7 +11,7 @@ ghost use Rattle.rules.specs.Lists.{bit, below, first};
 ghost use Rattle.rules.specs.Sheet.{whole};
 ghost use Rattle.sheet.specs.Held.{foundSaid};
 ghost use Rattle.network.specs.Rows.{Sorted};
-ghost use Rattle.network.specs.Answers.{RowSurveyed, orElse, wrongSum, Surveyed, runs, Paired};
+ghost use Rattle.network.specs.Answers.{RowSurveyed, orElse, wrongSum, Surveyed};
 
 // A sum of fractions.
 pub struct FractionSum(pub u64);
@@ -121,107 +121,4 @@ pub fn survey(
         flow_starts[next] = m as u16;
     }
     wrong
-}
-
-// Does a link that runs from one node to another run from node a to node z?
-fn is_between(from: u8, to: u8, a: u8, z: u8) -> bool
-    ensures { λ r. ⌜ r ≡ (eqb from a && eqb to z) ⌝ }
-{
-    if from == a { to == z } else { false }
-}
-
-// Each cursor starts where its node's row does.
-fn copy_starts(n: u8, starts: &[u16], cursor: &mut [u16])
-    requires { ⌜ (n ≤ 64) × (length (now starts) ≡ 65) × (length (now cursor) ≡ 64) ⌝ }
-{
-    let mut i: usize = 0;
-    while i < n as usize {
-        cursor[i] = starts[i];
-        i += 1;
-    }
-}
-
-// Since links rise by (from, to), the links into a node come in the order of the links out of it.
-// So a cursor in each row guesses the opposite, and what is guessed is tested.
-fn meet_opposites(
-    count: usize,
-    from: &[u8],
-    to: &[u8],
-    cursor: &mut [u16],
-    opposite: &mut [u16],
-) -> bool
-    requires { ⌜ (count ≤ 512) × (length (now from) ≡ 512) × (length (now to) ≡ 512) × (length (now cursor) ≡ 64) × (length (now opposite) ≡ 512) × ((j : ℕ) → j < count → getD (now to) j 0 < 64) ⌝ }
-    ensures { λ r. ⌜ (r ≡ true → Paired Found.Nowhere count (now (from .entry)) (now (to .entry)) (now (opposite .exit))) ⌝ }
-{
-    let mut j: usize = 0;
-    while j < count {
-        let b = to[j] as usize;
-        let c = cursor[b] as usize;
-        if count <= c {
-            return false;
-        }
-        if !is_between(from[c], to[c], to[j], from[j]) {
-            return false;
-        }
-        opposite[j] = c as u16;
-        cursor[b] = (c + 1) as u16;
-        j += 1;
-    }
-    true
-}
-
-// The first of the links that runs from node a to node z.
-fn find_link(count: usize, from: &[u8], to: &[u8], a: u8, z: u8) -> Found
-    requires { ⌜ (count ≤ length (now from)) × (count ≤ length (now to)) ⌝ }
-    ensures { λ r. ⌜ foundSaid r ≡ first (runs (now (from .entry)) (now (to .entry)) a z) (below count) ⌝ }
-{
-    let mut j: usize = 0;
-    while j < count {
-        if is_between(from[j], to[j], a, z) {
-            return Found::At(j);
-        }
-        j += 1;
-    }
-    Found::Nowhere
-}
-
-// Looks every opposite up among all links: slow, and exact for sheets that the cursors do not get through.
-fn search_opposites(count: usize, from: &[u8], to: &[u8], opposite: &mut [u16]) -> Found
-    requires { ⌜ (count ≤ 512) × (length (now from) ≡ 512) × (length (now to) ≡ 512) × (length (now opposite) ≡ 512) ⌝ }
-    ensures { λ r. ⌜ Paired r count (now (from .entry)) (now (to .entry)) (now (opposite .exit)) ⌝ }
-{
-    let mut j: usize = 0;
-    while j < count {
-        let twin = find_link(count, from, to, to[j], from[j]);
-        match twin {
-            Found::Nowhere => {
-                return Found::At(j);
-            }
-            Found::At(k) => {
-                opposite[j] = k as u16;
-                j += 1;
-            }
-        }
-    }
-    Found::Nowhere
-}
-
-// Writes for each link the number of its opposite; answers the first link that has none (6).
-pub fn pair_links(
-    n: u8,
-    count: usize,
-    starts: &[u16],
-    from: &[u8],
-    to: &[u8],
-    opposite: &mut [u16],
-) -> Found
-    requires { ⌜ (n ≤ 64) × (count ≤ 512) × (length (now starts) ≡ 65) × (length (now from) ≡ 512) × (length (now to) ≡ 512) × (length (now opposite) ≡ 512) × ((j : ℕ) → j < count → getD (now to) j 0 < n) ⌝ }
-    ensures { λ r. ⌜ Paired r count (now (from .entry)) (now (to .entry)) (now (opposite .exit)) ⌝ }
-{
-    let mut cursor = [0u16; 64];
-    copy_starts(n, starts, &mut cursor);
-    if meet_opposites(count, from, to, &mut cursor, opposite) {
-        return Found::Nowhere;
-    }
-    search_opposites(count, from, to, opposite)
 }

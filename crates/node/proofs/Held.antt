@@ -19,7 +19,8 @@ use Rattle.rules.proofs.Local.{back-first}
 use Rattle.desk.specs.Ways.{toldOf, waysFrom, waysOf, deskWith, Row, Rises}
 use Rattle.sheet.specs.declared.SheetHeld.{SheetHeld}
 use Rattle.sheet.specs.Held.{heldAt, held, sheetSaid}
-use Rattle.network.specs.Rows.{part, Rows, Flow, Opposites}
+use Rattle.links.specs.Opposites.{Opposites}
+use Rattle.network.specs.Rows.{part, Rows, Flow}
 use Rattle.network.proofs.Rows.{part-length, part-getD}
 use Rattle.network.proofs.Rows.{row-range, row-sum, held-length, held-at, opposite-turns, opposite-first}
 use mathlib.Core.Bool.{true}

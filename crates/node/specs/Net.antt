@@ -12,7 +12,8 @@ use Rattle.desk.specs.declared.Message.{Message}
 use Rattle.desk.specs.Ways.{toldOf, messageSaid, waysOf, deskWith, Row, Rises}
 use Rattle.sheet.specs.declared.SheetHeld.{SheetHeld}
 use Rattle.sheet.specs.Held.{sheetSaid}
-use Rattle.network.specs.Rows.{part, Rows, Flow, Opposites}
+use Rattle.links.specs.Opposites.{Opposites}
+use Rattle.network.specs.Rows.{part, Rows, Flow}
 
 -- node i's row of a list that stands link by link
 abbrev pub rowPart : List ℕ → List ℕ → ℕ → List ℕ

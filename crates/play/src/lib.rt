@@ -19,6 +19,7 @@ fn run_lines(
     h: SheetHeld,
     traffic: &[u32],
     from: &[u8],
+    to: &[u8],
     load: &[u8],
     starts: &[u16],
     flow_starts: &[u16],
@@ -29,7 +30,7 @@ fn run_lines(
     inbox: &mut [u32],
     quiet: &mut [u32],
 ) -> Ran
-    requires { ⌜ AnyAccepted h (now traffic) (now from) (now load) (now fraction) (now starts) (now «flow_starts») (now flow) (now opposite) × Empty (now line) × Empty (now inbox) × (length (now quiet) ≡ 64) ⌝ }
+    requires { ⌜ AnyAccepted h (now traffic) (now from) (now load) (now fraction) (now starts) (now «flow_starts») (now flow) (now opposite) × Empty (now line) × Empty (now inbox) × (length (now quiet) ≡ 64) × (length (now to) ≡ 512) ⌝ }
     ensures { λ r. ⌜ Lined r h (now (list .entry)) (now (traffic .entry)) (now (from .entry)) (now (load .entry)) (now (fraction .entry)) (now (starts .entry)) (now («flow_starts» .entry)) (now (flow .entry)) (now (opposite .entry)) (now (line .exit)) (now (inbox .exit)) (now (quiet .exit)) ⌝ }
 {
     let count = h.links;
@@ -39,6 +40,8 @@ fn run_lines(
         list,
         traffic,
         from,
+        to,
+        load,
         starts,
         flow_starts,
         flow,
@@ -94,6 +97,7 @@ pub fn play_accepted(
     h: SheetHeld,
     traffic: &[u32],
     from: &[u8],
+    to: &[u8],
     load: &[u8],
     starts: &[u16],
     flow_starts: &[u16],
@@ -102,7 +106,7 @@ pub fn play_accepted(
     fraction: &mut [u32],
     out: &mut [u8],
 ) -> Said
-    requires { ⌜ Accepted h (now b) (now traffic) (now from) (now load) (now fraction) (now starts) (now «flow_starts») (now flow) (now opposite) × (length (now b) ≤ length (now out)) ⌝ }
+    requires { ⌜ Accepted h (now b) (now traffic) (now from) (now load) (now fraction) (now starts) (now «flow_starts») (now flow) (now opposite) × (length (now b) ≤ length (now out)) × (length (now to) ≡ 512) ⌝ }
     ensures { λ r. ⌜ Played r h (now (b .entry)) (now (js .entry)) (now (traffic .entry)) (now (from .entry)) (now (load .entry)) (now (fraction .entry)) (now (starts .entry)) (now («flow_starts» .entry)) (now (flow .entry)) (now (opposite .entry)) (now (out .entry)) (now (out .exit)) ⌝ }
 {
     let mut line = [0u32; 512];
@@ -113,6 +117,7 @@ pub fn play_accepted(
         h,
         traffic,
         from,
+        to,
         load,
         starts,
         flow_starts,
@@ -147,6 +152,7 @@ pub fn frame_accepted(
     h: SheetHeld,
     traffic: &[u32],
     from: &[u8],
+    to: &[u8],
     load: &[u8],
     starts: &[u16],
     flow_starts: &[u16],
@@ -155,7 +161,7 @@ pub fn frame_accepted(
     opposite: &[u16],
     out: &mut [u8],
 ) -> Said
-    requires { ⌜ AnyAccepted h (now traffic) (now from) (now load) (now fraction) (now starts) (now «flow_starts») (now flow) (now opposite) × (6 * h .head .nodes ≤ length (now out)) ⌝ }
+    requires { ⌜ AnyAccepted h (now traffic) (now from) (now load) (now fraction) (now starts) (now «flow_starts») (now flow) (now opposite) × (6 * h .head .nodes ≤ length (now out)) × (length (now to) ≡ 512) ⌝ }
     ensures { λ r. ⌜ Framed r h (now (js .entry)) (now (traffic .entry)) (now (from .entry)) (now (load .entry)) (now (fraction .entry)) (now (starts .entry)) (now («flow_starts» .entry)) (now (flow .entry)) (now (opposite .entry)) (now (out .entry)) (now (out .exit)) ⌝ }
 {
     let mut line = [0u32; 512];
@@ -166,6 +172,7 @@ pub fn frame_accepted(
         h,
         traffic,
         from,
+        to,
         load,
         starts,
         flow_starts,

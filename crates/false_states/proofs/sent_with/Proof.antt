@@ -6,13 +6,13 @@ use Rattle.false_states.proofs.sent_with.Statement.{statement}
 use Rattle.false_states.proofs.sent_with.Tie as tie
 
 slice-aggregate-write-line-delays : tie.Need-slice-aggregate-write-line-delays
-slice-aggregate-write-line-delays c = loads-in (c .before .before .before .before .before .before .before .before .before .pre .0)
+slice-aggregate-write-line-delays c = loads-in (c .before .before .before .before .before .before .before .before .before .before .pre .0)
 
 slice-aggregate-write-line-delays-2 : tie.Need-slice-aggregate-write-line-delays-2
 slice-aggregate-write-line-delays-2 c = search needs
 
 write-line-delays-requires : tie.Need-write-line-delays-requires
-write-line-delays-requires c κs = lines-room (c .before .before .before .before .before .before .before .before .before .before .pre .0) nothing
+write-line-delays-requires c κs = lines-room (c .before .before .before .before .before .before .before .before .before .before .before .pre .0) nothing
 
 told-by-requires : tie.Need-told-by-requires
 told-by-requires c κs = search needs
@@ -27,7 +27,7 @@ slice-aggregate-sent-after-3 : tie.Need-slice-aggregate-sent-after-3
 slice-aggregate-sent-after-3 c = search needs
 
 sent-after-requires : tie.Need-sent-after-requires
-sent-after-requires c κs = sent-asked (c .before .before .before .before .before .write-line-delays .ensures) (c .before .before .before .before .before .before .before .before .before .before .before .before .before .before .before .before .pre .0) (c .before .before .before .before .before .before .before .before .before .before .before .before .before .before .before .before .pre .1) (c .before .before .before .before .before .before .before .before .before .before .before .before .before .before .before .before .pre .2) (c .before .before .before .before .before .before .before .before .before .before .before .before .before .before .before .before .pre .3) (c .before .before .before .told-by .ensures .1) (c .before .before .before .told-by .ensures .2) refl
+sent-after-requires c κs = (sent-asked (c .before .before .before .before .before .write-line-delays .ensures) (c .before .before .before .before .before .before .before .before .before .before .before .before .before .before .before .before .before .pre .0) (c .before .before .before .before .before .before .before .before .before .before .before .before .before .before .before .before .before .pre .1) (c .before .before .before .before .before .before .before .before .before .before .before .before .before .before .before .before .before .pre .2) (c .before .before .before .before .before .before .before .before .before .before .before .before .before .before .before .before .before .pre .3) (c .before .before .before .told-by .ensures .1) (c .before .before .before .told-by .ensures .2) refl, c .before .before .before .before .before .before .before .before .before .before .before .before .before .before .before .before .before .pre .4, c .before .before .before .before .before .before .before .before .before .before .before .before .before .before .before .before .before .pre .0 .1 .ready .load-size)
 
 returns : tie.Need-returns
 returns c = sent-with (c .before .before .before .before .before .before .before .before .write-line-delays .ensures) (c .before .before .before .before .before .before .told-by .ensures .0) (c .before .before .sent-after .ensures)

@@ -10,13 +10,13 @@ use Rattle.false_states.proofs.taken_with.Statement.{statement}
 use Rattle.false_states.proofs.taken_with.Tie as tie
 
 slice-aggregate-write-line-delays : tie.Need-slice-aggregate-write-line-delays
-slice-aggregate-write-line-delays c = loads-in (c .before .before .before .before .before .before .before .before .before .pre .0)
+slice-aggregate-write-line-delays c = loads-in (c .before .before .before .before .before .before .before .before .before .before .pre .0)
 
 slice-aggregate-write-line-delays-2 : tie.Need-slice-aggregate-write-line-delays-2
 slice-aggregate-write-line-delays-2 c = search needs
 
 write-line-delays-requires : tie.Need-write-line-delays-requires
-write-line-delays-requires c κs = lines-room (c .before .before .before .before .before .before .before .before .before .before .pre .0) nothing
+write-line-delays-requires c κs = lines-room (c .before .before .before .before .before .before .before .before .before .before .before .pre .0) nothing
 
 slice-aggregate-write-house : tie.Need-slice-aggregate-write-house
 slice-aggregate-write-house c = search needs
@@ -28,13 +28,13 @@ slice-aggregate-write-house-3 : tie.Need-slice-aggregate-write-house-3
 slice-aggregate-write-house-3 c = search needs
 
 write-house-requires : tie.Need-write-house-requires
-write-house-requires c κs = (graph-held (c .before .before .before .before .before .before .before .before .before .before .before .before .before .before .before .before .pre .0), nothing, refl, links-few (c .before .before .before .before .before .before .before .before .before .before .before .before .before .before .before .before .pre .0 .1 .ready .graph))
+write-house-requires c κs = (graph-held (c .before .before .before .before .before .before .before .before .before .before .before .before .before .before .before .before .before .pre .0), nothing, refl, links-few (c .before .before .before .before .before .before .before .before .before .before .before .before .before .before .before .before .before .pre .0 .1 .ready .graph))
 
 array-share-prefix-list : tie.Need-array-share-prefix-list
-array-share-prefix-list c = omega (arith, links-few (c .before .before .before .before .before .before .before .before .before .before .before .before .before .before .before .before .before .before .before .before .pre .0 .1 .ready .graph))
+array-share-prefix-list c = omega (arith, links-few (c .before .before .before .before .before .before .before .before .before .before .before .before .before .before .before .before .before .before .before .before .before .pre .0 .1 .ready .graph))
 
 slice-aggregate-take-after : tie.Need-slice-aggregate-take-after
-slice-aggregate-take-after c = sym (length-take-le _ _ (omega (arith, links-few (c .before .before .before .before .before .before .before .before .before .before .before .before .before .before .before .before .before .before .before .before .before .pre .0 .1 .ready .graph), c .before .list2 .given)))
+slice-aggregate-take-after c = sym (length-take-le _ _ (omega (arith, links-few (c .before .before .before .before .before .before .before .before .before .before .before .before .before .before .before .before .before .before .before .before .before .before .pre .0 .1 .ready .graph), c .before .list2 .given)))
 
 told-by-requires : tie.Need-told-by-requires
 told-by-requires c κs = search needs
@@ -49,7 +49,7 @@ slice-aggregate-take-after-4 : tie.Need-slice-aggregate-take-after-4
 slice-aggregate-take-after-4 c = search needs
 
 take-after-requires : tie.Need-take-after-requires
-take-after-requires c κs = rows-asked (c .before .before .before .before .before .before .before .before .before .before .before .before .before .before .before .write-line-delays .ensures) (c .before .before .before .before .before .before .before .before .before .before .before .before .before .before .before .before .before .before .before .before .before .before .before .before .before .before .pre .0) (c .before .before .before .before .before .before .before .before .before .before .before .before .before .before .before .before .before .before .before .before .before .before .before .before .before .before .pre .1) (c .before .before .before .before .before .before .before .before .before .before .before .before .before .before .before .before .before .before .before .before .before .before .before .before .before .before .pre .2) (c .before .before .before .before .told-by .ensures .1) (c .before .before .before .before .told-by .ensures .2) refl
+take-after-requires c κs = (rows-asked (c .before .before .before .before .before .before .before .before .before .before .before .before .before .before .before .write-line-delays .ensures) (c .before .before .before .before .before .before .before .before .before .before .before .before .before .before .before .before .before .before .before .before .before .before .before .before .before .before .before .pre .0) (c .before .before .before .before .before .before .before .before .before .before .before .before .before .before .before .before .before .before .before .before .before .before .before .before .before .before .before .pre .1) (c .before .before .before .before .before .before .before .before .before .before .before .before .before .before .before .before .before .before .before .before .before .before .before .before .before .before .before .pre .2) (c .before .before .before .before .told-by .ensures .1) (c .before .before .before .before .told-by .ensures .2) refl, c .before .before .before .before .before .before .before .before .before .before .before .before .before .before .before .before .before .before .before .before .before .before .before .before .before .before .before .pre .3, c .before .before .before .before .before .before .before .before .before .before .before .before .before .before .before .before .before .before .before .before .before .before .before .before .before .before .before .pre .0 .1 .ready .load-size)
 
 same-length : tie.Need-same-length
 same-length c = search needs

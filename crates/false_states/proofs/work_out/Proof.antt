@@ -1,3 +1,4 @@
+use native.Mathlib.Omega.{arith}
 use borrow.Author.Needs.{needs}
 use Rattle.false_states.proofs.False.{followed-refused, is-ready, followed-outside, followed-nowhere, followed-word, followed-rows, never-stopped}
 use Rattle.false_states.proofs.work_out.Statement.{statement}
@@ -84,14 +85,17 @@ slice-aggregate-sent-with-6 c = search needs
 slice-aggregate-sent-with-7 : tie.Need-slice-aggregate-sent-with-7
 slice-aggregate-sent-with-7 c = search needs
 
+slice-aggregate-sent-with-8 : tie.Need-slice-aggregate-sent-with-8
+slice-aggregate-sent-with-8 c = search needs
+
 sent-with-requires : tie.Need-sent-with-requires
-sent-with-requires c κs = ((_, record { ts = _; ord = _; turn = _; ready = is-ready (c .before .before .before .before .before .before .before .before .before .before .before .before .before .before .before .before .before .before .before .before .before .before .before .before .before .before .before .before .«open» .ensures) (c .before .before .before .before .before .before .before .before .before .before .before .before .before .before .opened .given .1) }), c .before .before .before .before .before .before .before .before .before .before .before .before .if1 .left, c .before .before .before .before .before .before .before .before .if2 .left, c .before .before .before .before .before .before .before .before .before .before .before .before .before .before .before .before .before .before .before .before .before .before .before .before .before .before .before .before .before .before .before .before .before .before .before .before .before .before .before .before .before .before .pre .0)
+sent-with-requires c κs = ((_, record { ts = _; ord = _; turn = _; ready = is-ready (c .before .before .before .before .before .before .before .before .before .before .before .before .before .before .before .before .before .before .before .before .before .before .before .before .before .before .before .before .before .«open» .ensures) (c .before .before .before .before .before .before .before .before .before .before .before .before .before .before .before .opened .given .1) }), c .before .before .before .before .before .before .before .before .before .before .before .before .before .if1 .left, c .before .before .before .before .before .before .before .before .before .if2 .left, c .before .before .before .before .before .before .before .before .before .before .before .before .before .before .before .before .before .before .before .before .before .before .before .before .before .before .before .before .before .before .before .before .before .before .before .before .before .before .before .before .before .before .before .pre .0, search needs)
 
 same-length-4 : tie.Need-same-length-4
-same-length-4 c = search needs
+same-length-4 c = omega (arith, c .before .before .before .before .before .before .before .before .before .before .before .before .before .before .before .before .before .before .before .before .before .before .before .before .before .fraction .given)
 
 returns-4 : tie.Need-returns-4
-returns-4 c = followed-word (c .before .before .before .before .before .before .before .before .before .before .before .before .before .before .before .before .before .before .before .before .before .before .before .before .before .before .before .before .before .«open» .ensures) (c .before .before .before .before .before .before .before .before .before .before .before .before .before .before .before .opened .given .1) (c .before .before .before .before .before .before .before .before .before .before .before .question .given .1) (c .sent-with .ensures)
+returns-4 c = followed-word (c .before .before .before .before .before .before .before .before .before .before .before .before .before .before .before .before .before .before .before .before .before .before .before .before .before .before .before .before .before .before .«open» .ensures) (c .before .before .before .before .before .before .before .before .before .before .before .before .before .before .before .before .opened .given .1) (c .before .before .before .before .before .before .before .before .before .before .before .before .question .given .1) (c .sent-with .ensures)
 
 enum-told-2 : tie.Need-enum-told-2
 enum-told-2 c = search needs
@@ -117,20 +121,23 @@ slice-aggregate-taken-with-6 c = search needs
 slice-aggregate-taken-with-7 : tie.Need-slice-aggregate-taken-with-7
 slice-aggregate-taken-with-7 c = search needs
 
+slice-aggregate-taken-with-8 : tie.Need-slice-aggregate-taken-with-8
+slice-aggregate-taken-with-8 c = search needs
+
 taken-with-requires : tie.Need-taken-with-requires
-taken-with-requires c κs = ((_, record { ts = _; ord = _; turn = _; ready = is-ready (c .before .before .before .before .before .before .before .before .before .before .before .before .before .before .before .before .before .before .before .before .before .before .before .before .before .before .«open» .ensures) (c .before .before .before .before .before .before .before .before .before .before .before .before .opened .given .1) }), c .before .before .before .before .before .before .before .before .before .before .if1 .left, c .before .before .before .before .before .before .before .before .before .before .before .before .before .before .before .before .before .before .before .before .before .before .before .before .before .before .before .before .before .before .before .before .before .before .before .before .before .before .before .before .pre .0)
+taken-with-requires c κs = ((_, record { ts = _; ord = _; turn = _; ready = is-ready (c .before .before .before .before .before .before .before .before .before .before .before .before .before .before .before .before .before .before .before .before .before .before .before .before .before .before .before .«open» .ensures) (c .before .before .before .before .before .before .before .before .before .before .before .before .before .opened .given .1) }), c .before .before .before .before .before .before .before .before .before .before .before .if1 .left, c .before .before .before .before .before .before .before .before .before .before .before .before .before .before .before .before .before .before .before .before .before .before .before .before .before .before .before .before .before .before .before .before .before .before .before .before .before .before .before .before .before .pre .0, search needs)
 
 same-length-5 : tie.Need-same-length-5
 same-length-5 c = search needs
 
 returns-5 : tie.Need-returns-5
-returns-5 c = followed-rows (c .before .before .before .before .before .before .before .before .before .before .before .before .before .before .before .before .before .before .before .before .before .before .before .before .before .before .before .before .before .before .«open» .ensures) (c .before .before .before .before .before .before .before .before .before .before .before .before .before .before .before .before .opened .given .1) (c .before .before .before .before .before .before .before .before .before .before .before .before .enum-told2 .given .1) (c .before .before .before .taken-with .ensures)
+returns-5 c = followed-rows (c .before .before .before .before .before .before .before .before .before .before .before .before .before .before .before .before .before .before .before .before .before .before .before .before .before .before .before .before .before .before .before .«open» .ensures) (c .before .before .before .before .before .before .before .before .before .before .before .before .before .before .before .before .before .opened .given .1) (c .before .before .before .before .before .before .before .before .before .before .before .before .before .enum-told2 .given .1) (c .before .before .before .taken-with .ensures)
 
 same-length-6 : tie.Need-same-length-6
 same-length-6 c = search needs
 
 returns-6 : tie.Need-returns-6
-returns-6 c = never-stopped (c .before .before .before .before .before .before .before .before .before .before .before .before .before .before .before .before .before .before .before .before .before .before .before .before .before .before .before .before .before .before .«open» .ensures) (c .before .before .before .before .before .before .before .before .before .before .before .before .before .before .before .before .opened .given .1) (c .if3 .left) (c .before .before .before .taken-with .ensures)
+returns-6 c = never-stopped (c .before .before .before .before .before .before .before .before .before .before .before .before .before .before .before .before .before .before .before .before .before .before .before .before .before .before .before .before .before .before .before .«open» .ensures) (c .before .before .before .before .before .before .before .before .before .before .before .before .before .before .before .before .before .opened .given .1) (c .if3 .left) (c .before .before .before .taken-with .ensures)
 
 pub work-out-spec : {M : Type 1} → statement M
 work-out-spec =
@@ -163,6 +170,7 @@ work-out-spec =
     slice-aggregate-sent-with-5
     slice-aggregate-sent-with-6
     slice-aggregate-sent-with-7
+    slice-aggregate-sent-with-8
     sent-with-requires
     same-length-4
     returns-4
@@ -174,6 +182,7 @@ work-out-spec =
     slice-aggregate-taken-with-5
     slice-aggregate-taken-with-6
     slice-aggregate-taken-with-7
+    slice-aggregate-taken-with-8
     taken-with-requires
     same-length-5
     returns-5

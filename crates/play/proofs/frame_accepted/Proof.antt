@@ -14,7 +14,7 @@ slice-aggregate-run-lines-3 : tie.Need-slice-aggregate-run-lines-3
 slice-aggregate-run-lines-3 c = search needs
 
 run-lines-requires : tie.Need-run-lines-requires
-run-lines-requires c κs = (c .before .before .before .before .before .before .before .before .before .before .before .before .before .pre .0, nothing, nothing, refl)
+run-lines-requires c κs = (c .before .before .before .before .before .before .before .before .before .before .before .before .before .before .pre .0, nothing, nothing, refl, c .before .before .before .before .before .before .before .before .before .before .before .before .before .before .pre .2)
 
 enum-known-ran : tie.Need-enum-known-ran
 enum-known-ran c = search needs
@@ -32,7 +32,7 @@ slice-aggregate-write-frames-3 : tie.Need-slice-aggregate-write-frames-3
 slice-aggregate-write-frames-3 c = search needs
 
 write-frames-requires : tie.Need-write-frames-requires
-write-frames-requires c κs = framable (c .before .before .before .before .before .before .before .before .before .run-lines .ensures) (c .before .before .before .before .before .before .before .before .before .before .before .before .before .before .before .before .before .before .before .before .before .before .before .pre .0 .1 .ready) (c .before .before .before .before .enum-told .given .1) (c .before .before .before .before .before .before .before .before .before .before .before .before .before .before .before .before .before .before .before .before .before .before .before .pre .1)
+write-frames-requires c κs = framable (c .before .before .before .before .before .before .before .before .before .run-lines .ensures) (c .before .before .before .before .before .before .before .before .before .before .before .before .before .before .before .before .before .before .before .before .before .before .before .before .pre .0 .1 .ready) (c .before .before .before .before .enum-told .given .1) (c .before .before .before .before .before .before .before .before .before .before .before .before .before .before .before .before .before .before .before .before .before .before .before .before .pre .1)
 
 cast-nodes : tie.Need-cast-nodes
 cast-nodes c = search needs

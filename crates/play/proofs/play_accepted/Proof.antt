@@ -14,7 +14,7 @@ slice-aggregate-run-lines-3 : tie.Need-slice-aggregate-run-lines-3
 slice-aggregate-run-lines-3 c = search needs
 
 run-lines-requires : tie.Need-run-lines-requires
-run-lines-requires c κs = ((_, c .before .before .before .before .before .before .before .before .before .before .before .before .before .before .before .pre .0), nothing, nothing, refl)
+run-lines-requires c κs = ((_, c .before .before .before .before .before .before .before .before .before .before .before .before .before .before .before .before .pre .0), nothing, nothing, refl, c .before .before .before .before .before .before .before .before .before .before .before .before .before .before .before .before .pre .2)
 
 enum-known-ran : tie.Need-enum-known-ran
 enum-known-ran c = search needs
@@ -29,7 +29,7 @@ slice-aggregate-end-play-2 : tie.Need-slice-aggregate-end-play-2
 slice-aggregate-end-play-2 c = search needs
 
 end-play-requires : tie.Need-end-play-requires
-end-play-requires c κs = takable (c .before .before .before .before .before .before .before .before .before .run-lines .ensures) (c .before .before .before .before .before .before .before .before .before .before .before .before .before .before .before .before .before .before .before .before .before .before .before .before .before .pre .0 .ready) (c .before .before .before .before .enum-told .given .1) (c .before .before .before .before .before .before .before .before .before .before .before .before .before .before .before .before .before .before .before .before .before .before .before .before .before .pre .1)
+end-play-requires c κs = takable (c .before .before .before .before .before .before .before .before .before .run-lines .ensures) (c .before .before .before .before .before .before .before .before .before .before .before .before .before .before .before .before .before .before .before .before .before .before .before .before .before .before .pre .0 .ready) (c .before .before .before .before .enum-told .given .1) (c .before .before .before .before .before .before .before .before .before .before .before .before .before .before .before .before .before .before .before .before .before .before .before .before .before .before .pre .1)
 
 same-length : tie.Need-same-length
 same-length c = search needs

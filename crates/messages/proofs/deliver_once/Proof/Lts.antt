@@ -10,11 +10,16 @@ use borrow.Fn.Frame
 use borrow.Fn.Function
 use borrow.Fn.Kinds
 use borrow.Fn.Plain
+use borrow.Kind.Array
 use borrow.Kind.MutSlice
 use borrow.Kind.Num
 use borrow.Kind.ShrSlice
 use borrow.Kind.Unit as Unit'
 use borrow.Kind.Value
+use borrow.Rule.Array.Init
+use borrow.Rule.Array.Rows
+use borrow.Rule.Array.Share
+use borrow.Rule.Array.Whole
 use borrow.Rule.Lifetime
 use borrow.Rule.Local
 use borrow.Rule.LocalCopy
@@ -24,14 +29,16 @@ use borrow.Rule.Slice.Mut
 use borrow.Rule.Slice.Relend
 use borrow.Rule.Slice.Shared
 use borrow.Rule.Yields
+use borrow.Struct.Reads
 use borrow.Table.Copies
 use borrow.Table.Own
-use borrow.Table.Reads
+use borrow.Table.Reads as Reads'
 use borrow.Table.Referent
 use borrow.Table.Row
 use borrow.Table.Rows as Rows'
 use borrow.Table.Typed
 use contract.Lifetimes
+use denote.Array as Array'
 use denote.Exit
 use denote.Struct.Declared
 use denote.Struct.Laws as Laws'
@@ -47,127 +54,173 @@ use mir.Syntax
 use mir.Val
 use prog.Wp
 use types.Kit
+use Rattle.links.proofs.Lent.Link as S·Link
 use Rattle.messages.proofs.Lent.Tally as S·Tally
 
 abbrev y0 : Syntax.Ty
 y0 = (Syntax.tyRef Syntax.erased Syntax.mut S·Tally.behind)
 
 abbrev y1 : Syntax.Ty
-y1 = (Syntax.tyRef Syntax.erased Syntax.mut (Syntax.tyInt Syntax.w32))
+y1 = (Syntax.tyRef Syntax.erased Syntax.imm (Syntax.tyArray S·Link.behind 512))
 
 abbrev y2 : Syntax.Ty
-y2 = (Syntax.tyStruct (List._∷_ 38 (List._∷_ 91 (List._∷_ 93 List.[]))) (Syntax.tcons (Syntax.tyRef Syntax.erased Syntax.mut (Syntax.tyInt Syntax.w32)) (Syntax.tcons (Syntax.tyInt Syntax.w64) Syntax.tnil)))
+y2 = (Syntax.tyStruct (List._∷_ 38 (List._∷_ 91 (List._∷_ 93 List.[]))) (Syntax.tcons (Syntax.tyRef Syntax.erased Syntax.imm S·Link.behind) (Syntax.tcons (Syntax.tyInt Syntax.w64) Syntax.tnil)))
 
 abbrev y3 : Syntax.Ty
-y3 = (Syntax.tyRef (Syntax.named 0) Syntax.imm (Syntax.tyInt Syntax.w32))
+y3 = (Syntax.tyRef Syntax.erased Syntax.mut (Syntax.tyInt Syntax.w32))
 
 abbrev y4 : Syntax.Ty
-y4 = (Syntax.tyRef (Syntax.named 1) Syntax.imm (Syntax.tyInt Syntax.w8))
+y4 = (Syntax.tyStruct (List._∷_ 38 (List._∷_ 91 (List._∷_ 93 List.[]))) (Syntax.tcons (Syntax.tyRef Syntax.erased Syntax.mut (Syntax.tyInt Syntax.w32)) (Syntax.tcons (Syntax.tyInt Syntax.w64) Syntax.tnil)))
 
 abbrev y5 : Syntax.Ty
-y5 = (Syntax.tyRef (Syntax.named 2) Syntax.imm (Syntax.tyInt Syntax.w16))
+y5 = (Syntax.tyRef (Syntax.named 0) Syntax.imm (Syntax.tyInt Syntax.w32))
 
 abbrev y6 : Syntax.Ty
-y6 = (Syntax.tyRef (Syntax.named 3) Syntax.imm (Syntax.tyInt Syntax.w16))
+y6 = (Syntax.tyRef (Syntax.named 1) Syntax.imm (Syntax.tyInt Syntax.w8))
 
 abbrev y7 : Syntax.Ty
-y7 = (Syntax.tyRef (Syntax.named 4) Syntax.imm (Syntax.tyInt Syntax.w16))
+y7 = (Syntax.tyRef (Syntax.named 2) Syntax.imm (Syntax.tyInt Syntax.w8))
 
 abbrev y8 : Syntax.Ty
-y8 = (Syntax.tyRef (Syntax.named 5) Syntax.imm (Syntax.tyInt Syntax.w32))
+y8 = (Syntax.tyRef (Syntax.named 3) Syntax.imm (Syntax.tyInt Syntax.w8))
 
 abbrev y9 : Syntax.Ty
-y9 = (Syntax.tyRef (Syntax.named 6) Syntax.imm (Syntax.tyInt Syntax.w32))
+y9 = (Syntax.tyRef (Syntax.named 4) Syntax.imm (Syntax.tyInt Syntax.w16))
 
 abbrev y10 : Syntax.Ty
-y10 = (Syntax.tyRef (Syntax.named 7) Syntax.imm (Syntax.tyInt Syntax.w16))
+y10 = (Syntax.tyRef (Syntax.named 5) Syntax.imm (Syntax.tyInt Syntax.w16))
 
 abbrev y11 : Syntax.Ty
-y11 = (Syntax.tyRef (Syntax.named 8) Syntax.mut (Syntax.tyInt Syntax.w32))
+y11 = (Syntax.tyRef (Syntax.named 6) Syntax.imm (Syntax.tyInt Syntax.w16))
 
 abbrev y12 : Syntax.Ty
-y12 = (Syntax.tyRef (Syntax.named 9) Syntax.mut (Syntax.tyInt Syntax.w32))
+y12 = (Syntax.tyRef (Syntax.named 7) Syntax.imm (Syntax.tyInt Syntax.w32))
 
 abbrev y13 : Syntax.Ty
-y13 = (Syntax.tyStruct (List._∷_ 115 (List._∷_ 104 (List._∷_ 101 (List._∷_ 101 (List._∷_ 116 (List._∷_ 58 (List._∷_ 58 (List._∷_ 83 (List._∷_ 104 (List._∷_ 101 (List._∷_ 101 (List._∷_ 116 (List._∷_ 72 (List._∷_ 101 (List._∷_ 108 (List._∷_ 100 List.[])))))))))))))))) (Syntax.tcons (Syntax.tyStruct (List._∷_ 115 (List._∷_ 104 (List._∷_ 101 (List._∷_ 101 (List._∷_ 116 (List._∷_ 58 (List._∷_ 58 (List._∷_ 72 (List._∷_ 101 (List._∷_ 97 (List._∷_ 100 (List._∷_ 72 (List._∷_ 101 (List._∷_ 108 (List._∷_ 100 List.[]))))))))))))))) (Syntax.tcons (Syntax.tyInt Syntax.w8) (Syntax.tcons (Syntax.tyInt Syntax.w8) (Syntax.tcons (Syntax.tyStruct (List._∷_ 110 (List._∷_ 117 (List._∷_ 109 (List._∷_ 98 (List._∷_ 101 (List._∷_ 114 (List._∷_ 115 (List._∷_ 58 (List._∷_ 58 (List._∷_ 83 (List._∷_ 116 (List._∷_ 101 (List._∷_ 112 List.[]))))))))))))) (Syntax.tcons (Syntax.tyInt Syntax.w32) Syntax.tnil)) Syntax.tnil)))) (Syntax.tcons (Syntax.tyInt Syntax.w64) Syntax.tnil)))
+y13 = (Syntax.tyRef (Syntax.named 8) Syntax.imm (Syntax.tyInt Syntax.w32))
 
-abbrev pub ps : List.List (Kinds.PK 10)
-ps = List._∷_ (Value.pVal record { ty = Declared.row SheetHeld.the-type; one = Path'.refl; val = Laws'.val SheetHeld.the-type Laws.the-laws; tells = Laws'.tells SheetHeld.the-type Laws.the-laws; still = Laws'.still SheetHeld.the-type Laws.the-copy Exit.yes; row = Rows'.whole (Declared.row SheetHeld.the-type); rd = λ x. x; mk = λ x. x } λ M 𝓤 H A W. record { copies = Laws'.copy SheetHeld.the-type Laws.the-copy 𝓤 H A W; lawful = Laws'.lawful SheetHeld.the-type Laws.the-laws 𝓤 H A W; makes = Laws'.makes SheetHeld.the-type Laws.the-plain 𝓤 H A; in-mem = Local.mem-whole 𝓤 H A W (Declared.row SheetHeld.the-type); of-mem = Local.whole-mem 𝓤 H A W (Declared.row SheetHeld.the-type) }) (List._∷_ (Num.pNum Syntax.w64) (List._∷_ S·Tally.param (List._∷_ (ShrSlice.pShrS (Referent.rtF (Referent.fInt Syntax.w32)) 0 tt) (List._∷_ (ShrSlice.pShrS (Referent.rtF (Referent.fInt Syntax.w8)) 1 tt) (List._∷_ (ShrSlice.pShrS (Referent.rtF (Referent.fInt Syntax.w16)) 2 tt) (List._∷_ (ShrSlice.pShrS (Referent.rtF (Referent.fInt Syntax.w16)) 3 tt) (List._∷_ (ShrSlice.pShrS (Referent.rtF (Referent.fInt Syntax.w16)) 4 tt) (List._∷_ (ShrSlice.pShrS (Referent.rtF (Referent.fInt Syntax.w32)) 5 tt) (List._∷_ (ShrSlice.pShrS (Referent.rtF (Referent.fInt Syntax.w32)) 6 tt) (List._∷_ (ShrSlice.pShrS (Referent.rtF (Referent.fInt Syntax.w16)) 7 tt) (List._∷_ (MutSlice.pMutS (Referent.rtF (Referent.fInt Syntax.w32)) 8 tt) (List._∷_ (MutSlice.pMutS (Referent.rtF (Referent.fInt Syntax.w32)) 9 tt) List.[]))))))))))))
+abbrev y14 : Syntax.Ty
+y14 = (Syntax.tyRef (Syntax.named 9) Syntax.imm (Syntax.tyInt Syntax.w16))
 
-abbrev pub r : Kinds.RK 10
+abbrev y15 : Syntax.Ty
+y15 = (Syntax.tyRef (Syntax.named 10) Syntax.mut (Syntax.tyInt Syntax.w32))
+
+abbrev y16 : Syntax.Ty
+y16 = (Syntax.tyRef (Syntax.named 11) Syntax.mut (Syntax.tyInt Syntax.w32))
+
+abbrev y17 : Syntax.Ty
+y17 = (Syntax.tyStruct (List._∷_ 115 (List._∷_ 104 (List._∷_ 101 (List._∷_ 101 (List._∷_ 116 (List._∷_ 58 (List._∷_ 58 (List._∷_ 83 (List._∷_ 104 (List._∷_ 101 (List._∷_ 101 (List._∷_ 116 (List._∷_ 72 (List._∷_ 101 (List._∷_ 108 (List._∷_ 100 List.[])))))))))))))))) (Syntax.tcons (Syntax.tyStruct (List._∷_ 115 (List._∷_ 104 (List._∷_ 101 (List._∷_ 101 (List._∷_ 116 (List._∷_ 58 (List._∷_ 58 (List._∷_ 72 (List._∷_ 101 (List._∷_ 97 (List._∷_ 100 (List._∷_ 72 (List._∷_ 101 (List._∷_ 108 (List._∷_ 100 List.[]))))))))))))))) (Syntax.tcons (Syntax.tyInt Syntax.w8) (Syntax.tcons (Syntax.tyInt Syntax.w8) (Syntax.tcons (Syntax.tyStruct (List._∷_ 110 (List._∷_ 117 (List._∷_ 109 (List._∷_ 98 (List._∷_ 101 (List._∷_ 114 (List._∷_ 115 (List._∷_ 58 (List._∷_ 58 (List._∷_ 83 (List._∷_ 116 (List._∷_ 101 (List._∷_ 112 List.[]))))))))))))) (Syntax.tcons (Syntax.tyInt Syntax.w32) Syntax.tnil)) Syntax.tnil)))) (Syntax.tcons (Syntax.tyInt Syntax.w64) Syntax.tnil)))
+
+abbrev y18 : Syntax.Ty
+y18 = (Syntax.tyRef Syntax.erased Syntax.imm S·Link.behind)
+
+abbrev pub ps : List.List (Kinds.PK 12)
+ps = List._∷_ (Value.pVal record { ty = Declared.row SheetHeld.the-type; one = Path'.refl; val = Laws'.val SheetHeld.the-type Laws.the-laws; tells = Laws'.tells SheetHeld.the-type Laws.the-laws; still = Laws'.still SheetHeld.the-type Laws.the-copy Exit.yes; row = Rows'.whole (Declared.row SheetHeld.the-type); rd = λ x. x; mk = λ x. x } λ M 𝓤 H A W. record { copies = Laws'.copy SheetHeld.the-type Laws.the-copy 𝓤 H A W; lawful = Laws'.lawful SheetHeld.the-type Laws.the-laws 𝓤 H A W; makes = Laws'.makes SheetHeld.the-type Laws.the-plain 𝓤 H A; in-mem = Local.mem-whole 𝓤 H A W (Declared.row SheetHeld.the-type); of-mem = Local.whole-mem 𝓤 H A W (Declared.row SheetHeld.the-type) }) (List._∷_ (Num.pNum Syntax.w64) (List._∷_ S·Tally.param (List._∷_ (ShrSlice.pShrS (Referent.rtF (Referent.fInt Syntax.w32)) 0 tt) (List._∷_ (ShrSlice.pShrS (Referent.rtF (Referent.fInt Syntax.w8)) 1 tt) (List._∷_ (ShrSlice.pShrS (Referent.rtF (Referent.fInt Syntax.w8)) 2 tt) (List._∷_ (ShrSlice.pShrS (Referent.rtF (Referent.fInt Syntax.w8)) 3 tt) (List._∷_ (ShrSlice.pShrS (Referent.rtF (Referent.fInt Syntax.w16)) 4 tt) (List._∷_ (ShrSlice.pShrS (Referent.rtF (Referent.fInt Syntax.w16)) 5 tt) (List._∷_ (ShrSlice.pShrS (Referent.rtF (Referent.fInt Syntax.w16)) 6 tt) (List._∷_ (ShrSlice.pShrS (Referent.rtF (Referent.fInt Syntax.w32)) 7 tt) (List._∷_ (ShrSlice.pShrS (Referent.rtF (Referent.fInt Syntax.w32)) 8 tt) (List._∷_ (ShrSlice.pShrS (Referent.rtF (Referent.fInt Syntax.w16)) 9 tt) (List._∷_ (MutSlice.pMutS (Referent.rtF (Referent.fInt Syntax.w32)) 10 tt) (List._∷_ (MutSlice.pMutS (Referent.rtF (Referent.fInt Syntax.w32)) 11 tt) List.[]))))))))))))))
+
+abbrev pub r : Kinds.RK 12
 r = S·Tally.result
 
 abbrev pub xs : List.List Syntax.Ty
-xs = List._∷_ S·Tally.laid (List._∷_ Syntax.tyUnit (List._∷_ y0 (List._∷_ y1 (List._∷_ y2 (List._∷_ y1 (List._∷_ y2 List.[]))))))
+xs = List._∷_ (Syntax.tyArray S·Link.laid 512) (List._∷_ S·Tally.laid (List._∷_ (Syntax.tyArray S·Link.laid 512) (List._∷_ Syntax.tyUnit (List._∷_ y0 (List._∷_ y1 (List._∷_ y2 (List._∷_ y3 (List._∷_ y4 (List._∷_ y3 (List._∷_ y4 List.[]))))))))))
 
 abbrev pub m : Nat.ℕ
-m = 3
+m = 4
 
-abbrev pub ps·0 : List.List (Kinds.PK 11)
-ps·0 = List._∷_ (Value.pVal record { ty = Declared.row SheetHeld.the-type; one = Path'.refl; val = Laws'.val SheetHeld.the-type Laws.the-laws; tells = Laws'.tells SheetHeld.the-type Laws.the-laws; still = Laws'.still SheetHeld.the-type Laws.the-copy Exit.yes; row = Rows'.whole (Declared.row SheetHeld.the-type); rd = λ x. x; mk = λ x. x } λ M 𝓤 H A W. record { copies = Laws'.copy SheetHeld.the-type Laws.the-copy 𝓤 H A W; lawful = Laws'.lawful SheetHeld.the-type Laws.the-laws 𝓤 H A W; makes = Laws'.makes SheetHeld.the-type Laws.the-plain 𝓤 H A; in-mem = Local.mem-whole 𝓤 H A W (Declared.row SheetHeld.the-type); of-mem = Local.whole-mem 𝓤 H A W (Declared.row SheetHeld.the-type) }) (List._∷_ (Num.pNum Syntax.w64) (List._∷_ (Kinds.pMut S·Tally.R 0 tt) (List._∷_ (ShrSlice.pShrS (Referent.rtF (Referent.fInt Syntax.w32)) 1 tt) (List._∷_ (ShrSlice.pShrS (Referent.rtF (Referent.fInt Syntax.w8)) 2 tt) (List._∷_ (ShrSlice.pShrS (Referent.rtF (Referent.fInt Syntax.w16)) 3 tt) (List._∷_ (ShrSlice.pShrS (Referent.rtF (Referent.fInt Syntax.w16)) 4 tt) (List._∷_ (ShrSlice.pShrS (Referent.rtF (Referent.fInt Syntax.w16)) 5 tt) (List._∷_ (ShrSlice.pShrS (Referent.rtF (Referent.fInt Syntax.w32)) 6 tt) (List._∷_ (ShrSlice.pShrS (Referent.rtF (Referent.fInt Syntax.w32)) 7 tt) (List._∷_ (ShrSlice.pShrS (Referent.rtF (Referent.fInt Syntax.w16)) 8 tt) (List._∷_ (MutSlice.pMutS (Referent.rtF (Referent.fInt Syntax.w32)) 9 tt) (List._∷_ (MutSlice.pMutS (Referent.rtF (Referent.fInt Syntax.w32)) 10 tt) List.[]))))))))))))
+abbrev pub ps·0 : List.List (Kinds.PK 4)
+ps·0 = List._∷_ (Num.pNum Syntax.w64) (List._∷_ (ShrSlice.pShrS (Referent.rtF (Referent.fInt Syntax.w8)) 0 tt) (List._∷_ (ShrSlice.pShrS (Referent.rtF (Referent.fInt Syntax.w8)) 1 tt) (List._∷_ (ShrSlice.pShrS (Referent.rtF (Referent.fInt Syntax.w8)) 2 tt) (List._∷_ (ShrSlice.pShrS (Referent.rtF (Referent.fInt Syntax.w32)) 3 tt) List.[]))))
 
-abbrev pub r·0 : Kinds.RK 11
-r·0 = Unit'.rUnit
+abbrev pub r·0 : Kinds.RK 4
+r·0 = Array.rArr S·Link.elem S·Link.elem-laws 512
+
+abbrev pub ps·1 : List.List (Kinds.PK 11)
+ps·1 = List._∷_ (Value.pVal record { ty = Declared.row SheetHeld.the-type; one = Path'.refl; val = Laws'.val SheetHeld.the-type Laws.the-laws; tells = Laws'.tells SheetHeld.the-type Laws.the-laws; still = Laws'.still SheetHeld.the-type Laws.the-copy Exit.yes; row = Rows'.whole (Declared.row SheetHeld.the-type); rd = λ x. x; mk = λ x. x } λ M 𝓤 H A W. record { copies = Laws'.copy SheetHeld.the-type Laws.the-copy 𝓤 H A W; lawful = Laws'.lawful SheetHeld.the-type Laws.the-laws 𝓤 H A W; makes = Laws'.makes SheetHeld.the-type Laws.the-plain 𝓤 H A; in-mem = Local.mem-whole 𝓤 H A W (Declared.row SheetHeld.the-type); of-mem = Local.whole-mem 𝓤 H A W (Declared.row SheetHeld.the-type) }) (List._∷_ (Num.pNum Syntax.w64) (List._∷_ (Kinds.pMut S·Tally.R 0 tt) (List._∷_ (ShrSlice.pShrS (Referent.rtF (Referent.fInt Syntax.w32)) 1 tt) (List._∷_ (ShrSlice.pShrS S·Link.R 2 tt) (List._∷_ (ShrSlice.pShrS (Referent.rtF (Referent.fInt Syntax.w16)) 3 tt) (List._∷_ (ShrSlice.pShrS (Referent.rtF (Referent.fInt Syntax.w16)) 4 tt) (List._∷_ (ShrSlice.pShrS (Referent.rtF (Referent.fInt Syntax.w16)) 5 tt) (List._∷_ (ShrSlice.pShrS (Referent.rtF (Referent.fInt Syntax.w32)) 6 tt) (List._∷_ (ShrSlice.pShrS (Referent.rtF (Referent.fInt Syntax.w32)) 7 tt) (List._∷_ (ShrSlice.pShrS (Referent.rtF (Referent.fInt Syntax.w16)) 8 tt) (List._∷_ (MutSlice.pMutS (Referent.rtF (Referent.fInt Syntax.w32)) 9 tt) (List._∷_ (MutSlice.pMutS (Referent.rtF (Referent.fInt Syntax.w32)) 10 tt) List.[]))))))))))))
+
+abbrev pub r·1 : Kinds.RK 11
+r·1 = Unit'.rUnit
 
 abbrev pub hs : List.List Syntax.Home
-hs = List._∷_ Syntax.valueLocal (List._∷_ Syntax.valueLocal (List._∷_ Syntax.valueLocal (List._∷_ Syntax.valueLocal (List._∷_ Syntax.valueLocal (List._∷_ Syntax.valueLocal (List._∷_ Syntax.valueLocal (List._∷_ Syntax.valueLocal (List._∷_ Syntax.valueLocal (List._∷_ Syntax.valueLocal (List._∷_ Syntax.valueLocal (List._∷_ Syntax.valueLocal (List._∷_ Syntax.valueLocal (List._∷_ Syntax.valueLocal (List._∷_ Syntax.memorySlot (List._∷_ Syntax.valueLocal (List._∷_ Syntax.valueLocal (List._∷_ Syntax.valueLocal (List._∷_ Syntax.valueLocal (List._∷_ Syntax.valueLocal (List._∷_ Syntax.valueLocal List.[]))))))))))))))))))))
+hs = List._∷_ Syntax.valueLocal (List._∷_ Syntax.valueLocal (List._∷_ Syntax.valueLocal (List._∷_ Syntax.valueLocal (List._∷_ Syntax.valueLocal (List._∷_ Syntax.valueLocal (List._∷_ Syntax.valueLocal (List._∷_ Syntax.valueLocal (List._∷_ Syntax.valueLocal (List._∷_ Syntax.valueLocal (List._∷_ Syntax.valueLocal (List._∷_ Syntax.valueLocal (List._∷_ Syntax.valueLocal (List._∷_ Syntax.valueLocal (List._∷_ Syntax.valueLocal (List._∷_ Syntax.valueLocal (List._∷_ Syntax.memorySlot (List._∷_ Syntax.memorySlot (List._∷_ Syntax.valueLocal (List._∷_ Syntax.valueLocal (List._∷_ Syntax.valueLocal (List._∷_ Syntax.valueLocal (List._∷_ Syntax.valueLocal (List._∷_ Syntax.valueLocal (List._∷_ Syntax.valueLocal (List._∷_ Syntax.valueLocal (List._∷_ Syntax.valueLocal List.[]))))))))))))))))))))))))))
 
 abbrev b0 : Syntax.Body
-b0 = Syntax.assign (Syntax.place 14 List.[]) (Syntax.rvOpd (Syntax.copy (Syntax.place 3 List.[])))
+b0 = Syntax.call "links::list" (List._∷_ (Syntax.copy (Syntax.place 1 (List._∷_ (Syntax.field 1) List.[]))) (List._∷_ (Syntax.copy (Syntax.place 5 List.[])) (List._∷_ (Syntax.copy (Syntax.place 6 List.[])) (List._∷_ (Syntax.copy (Syntax.place 7 List.[])) (List._∷_ (Syntax.copy (Syntax.place 12 List.[])) List.[]))))) (Syntax.place 18 List.[])
 
 abbrev b1 : Syntax.Body
-b1 = Syntax.assign (Syntax.place 16 List.[]) (Syntax.addrOf (Syntax.place 14 List.[]))
+b1 = Syntax.assign (Syntax.place 16 List.[]) (Syntax.rvOpd (Syntax.copy (Syntax.place 18 List.[])))
 
 abbrev b2 : Syntax.Body
-b2 = Syntax.assign (Syntax.place 17 List.[]) (Syntax.addrOf (Syntax.place 12 (List._∷_ (Syntax.field 0) (List._∷_ (Syntax.deref (Syntax.tyInt Syntax.w32)) List.[]))))
+b2 = Syntax.assign (Syntax.place 17 List.[]) (Syntax.rvOpd (Syntax.copy (Syntax.place 3 List.[])))
 
 abbrev b3 : Syntax.Body
-b3 = Syntax.assign (Syntax.place 18 List.[]) (Syntax.aggregate (List._∷_ (Syntax.copy (Syntax.place 17 List.[])) (List._∷_ (Syntax.copy (Syntax.place 12 (List._∷_ (Syntax.field 1) List.[]))) List.[])))
+b3 = Syntax.assign (Syntax.place 20 List.[]) (Syntax.addrOf (Syntax.place 17 List.[]))
 
 abbrev b4 : Syntax.Body
-b4 = Syntax.assign (Syntax.place 19 List.[]) (Syntax.addrOf (Syntax.place 13 (List._∷_ (Syntax.field 0) (List._∷_ (Syntax.deref (Syntax.tyInt Syntax.w32)) List.[]))))
+b4 = Syntax.assign (Syntax.place 21 List.[]) (Syntax.addrOf (Syntax.place 16 List.[]))
 
 abbrev b5 : Syntax.Body
-b5 = Syntax.assign (Syntax.place 20 List.[]) (Syntax.aggregate (List._∷_ (Syntax.copy (Syntax.place 19 List.[])) (List._∷_ (Syntax.copy (Syntax.place 13 (List._∷_ (Syntax.field 1) List.[]))) List.[])))
+b5 = Syntax.assign (Syntax.place 22 List.[]) (Syntax.aggregate (List._∷_ (Syntax.copy (Syntax.place 21 List.[])) (List._∷_ (Syntax.int Syntax.w64 512) List.[])))
 
 abbrev b6 : Syntax.Body
-b6 = Syntax.call "messages::deliver" (List._∷_ (Syntax.copy (Syntax.place 1 List.[])) (List._∷_ (Syntax.copy (Syntax.place 2 List.[])) (List._∷_ (Syntax.copy (Syntax.place 16 List.[])) (List._∷_ (Syntax.copy (Syntax.place 4 List.[])) (List._∷_ (Syntax.copy (Syntax.place 5 List.[])) (List._∷_ (Syntax.copy (Syntax.place 6 List.[])) (List._∷_ (Syntax.copy (Syntax.place 7 List.[])) (List._∷_ (Syntax.copy (Syntax.place 8 List.[])) (List._∷_ (Syntax.copy (Syntax.place 9 List.[])) (List._∷_ (Syntax.copy (Syntax.place 10 List.[])) (List._∷_ (Syntax.copy (Syntax.place 11 List.[])) (List._∷_ (Syntax.copy (Syntax.place 18 List.[])) (List._∷_ (Syntax.copy (Syntax.place 20 List.[])) List.[]))))))))))))) (Syntax.place 15 List.[])
+b6 = Syntax.assign (Syntax.place 23 List.[]) (Syntax.addrOf (Syntax.place 14 (List._∷_ (Syntax.field 0) (List._∷_ (Syntax.deref (Syntax.tyInt Syntax.w32)) List.[]))))
 
 abbrev b7 : Syntax.Body
-b7 = Syntax.assign (Syntax.place 0 List.[]) (Syntax.rvOpd (Syntax.copy (Syntax.place 14 List.[])))
+b7 = Syntax.assign (Syntax.place 24 List.[]) (Syntax.aggregate (List._∷_ (Syntax.copy (Syntax.place 23 List.[])) (List._∷_ (Syntax.copy (Syntax.place 14 (List._∷_ (Syntax.field 1) List.[]))) List.[])))
 
 abbrev b8 : Syntax.Body
-b8 = Syntax.return
+b8 = Syntax.assign (Syntax.place 25 List.[]) (Syntax.addrOf (Syntax.place 15 (List._∷_ (Syntax.field 0) (List._∷_ (Syntax.deref (Syntax.tyInt Syntax.w32)) List.[]))))
 
 abbrev b9 : Syntax.Body
-b9 = Syntax.seq b7 b8
+b9 = Syntax.assign (Syntax.place 26 List.[]) (Syntax.aggregate (List._∷_ (Syntax.copy (Syntax.place 25 List.[])) (List._∷_ (Syntax.copy (Syntax.place 15 (List._∷_ (Syntax.field 1) List.[]))) List.[])))
 
 abbrev b10 : Syntax.Body
-b10 = Syntax.seq b6 b9
+b10 = Syntax.call "messages::deliver" (List._∷_ (Syntax.copy (Syntax.place 1 List.[])) (List._∷_ (Syntax.copy (Syntax.place 2 List.[])) (List._∷_ (Syntax.copy (Syntax.place 20 List.[])) (List._∷_ (Syntax.copy (Syntax.place 4 List.[])) (List._∷_ (Syntax.copy (Syntax.place 22 List.[])) (List._∷_ (Syntax.copy (Syntax.place 8 List.[])) (List._∷_ (Syntax.copy (Syntax.place 9 List.[])) (List._∷_ (Syntax.copy (Syntax.place 10 List.[])) (List._∷_ (Syntax.copy (Syntax.place 11 List.[])) (List._∷_ (Syntax.copy (Syntax.place 12 List.[])) (List._∷_ (Syntax.copy (Syntax.place 13 List.[])) (List._∷_ (Syntax.copy (Syntax.place 24 List.[])) (List._∷_ (Syntax.copy (Syntax.place 26 List.[])) List.[]))))))))))))) (Syntax.place 19 List.[])
 
 abbrev b11 : Syntax.Body
-b11 = Syntax.seq b5 b10
+b11 = Syntax.assign (Syntax.place 0 List.[]) (Syntax.rvOpd (Syntax.copy (Syntax.place 17 List.[])))
 
 abbrev b12 : Syntax.Body
-b12 = Syntax.seq b4 b11
+b12 = Syntax.return
 
 abbrev b13 : Syntax.Body
-b13 = Syntax.seq b3 b12
+b13 = Syntax.seq b11 b12
 
 abbrev b14 : Syntax.Body
-b14 = Syntax.seq b2 b13
+b14 = Syntax.seq b10 b13
 
 abbrev b15 : Syntax.Body
-b15 = Syntax.seq b1 b14
+b15 = Syntax.seq b9 b14
 
 abbrev b16 : Syntax.Body
-b16 = Syntax.seq b0 b15
+b16 = Syntax.seq b8 b15
+
+abbrev b17 : Syntax.Body
+b17 = Syntax.seq b7 b16
+
+abbrev b18 : Syntax.Body
+b18 = Syntax.seq b6 b17
+
+abbrev b19 : Syntax.Body
+b19 = Syntax.seq b5 b18
+
+abbrev b20 : Syntax.Body
+b20 = Syntax.seq b4 b19
+
+abbrev b21 : Syntax.Body
+b21 = Syntax.seq b3 b20
+
+abbrev b22 : Syntax.Body
+b22 = Syntax.seq b2 b21
+
+abbrev b23 : Syntax.Body
+b23 = Syntax.seq b1 b22
+
+abbrev b24 : Syntax.Body
+b24 = Syntax.seq b0 b23
 
 abbrev pub body : Syntax.Body
-body = b16
+body = b24
 
 abbrev pub Claims : Type 1
-Claims = Kinds.In 11 ps·0 × Kinds.Out 11 ps·0 r·0
+Claims = Kinds.In 4 ps·0 × Kinds.Out 4 ps·0 r·0 × Kinds.In 11 ps·1 × Kinds.Out 11 ps·1 r·1
 
 abbrev e0 : Row.Entry
 e0 = (0, Rows'.any-gone S·Tally.laid)
@@ -179,166 +232,211 @@ abbrev e2 : Row.Entry
 e2 = (2, Rows'.sc-here (Row.sInt Syntax.w64))
 
 abbrev e3 : Row.Entry
-e3 = (3, S·Tally.whole)
+e3 = (4, Rows'.sslice (Referent.rtF (Referent.fInt Syntax.w32)) y5 0)
 
 abbrev e4 : Row.Entry
-e4 = (4, Rows'.sslice (Referent.rtF (Referent.fInt Syntax.w32)) y3 0)
+e4 = (5, Rows'.sslice (Referent.rtF (Referent.fInt Syntax.w8)) y6 1)
 
 abbrev e5 : Row.Entry
-e5 = (5, Rows'.sslice (Referent.rtF (Referent.fInt Syntax.w8)) y4 1)
+e5 = (6, Rows'.sslice (Referent.rtF (Referent.fInt Syntax.w8)) y7 2)
 
 abbrev e6 : Row.Entry
-e6 = (6, Rows'.sslice (Referent.rtF (Referent.fInt Syntax.w16)) y5 2)
+e6 = (7, Rows'.sslice (Referent.rtF (Referent.fInt Syntax.w8)) y8 3)
 
 abbrev e7 : Row.Entry
-e7 = (7, Rows'.sslice (Referent.rtF (Referent.fInt Syntax.w16)) y6 3)
+e7 = (8, Rows'.sslice (Referent.rtF (Referent.fInt Syntax.w16)) y9 4)
 
 abbrev e8 : Row.Entry
-e8 = (8, Rows'.sslice (Referent.rtF (Referent.fInt Syntax.w16)) y7 4)
+e8 = (9, Rows'.sslice (Referent.rtF (Referent.fInt Syntax.w16)) y10 5)
 
 abbrev e9 : Row.Entry
-e9 = (9, Rows'.sslice (Referent.rtF (Referent.fInt Syntax.w32)) y8 5)
+e9 = (10, Rows'.sslice (Referent.rtF (Referent.fInt Syntax.w16)) y11 6)
 
 abbrev e10 : Row.Entry
-e10 = (10, Rows'.sslice (Referent.rtF (Referent.fInt Syntax.w32)) y9 6)
+e10 = (11, Rows'.sslice (Referent.rtF (Referent.fInt Syntax.w32)) y12 7)
 
 abbrev e11 : Row.Entry
-e11 = (11, Rows'.sslice (Referent.rtF (Referent.fInt Syntax.w16)) y10 7)
+e11 = (12, Rows'.sslice (Referent.rtF (Referent.fInt Syntax.w32)) y13 8)
 
 abbrev e12 : Row.Entry
-e12 = (12, Mut.mslice (Referent.rtF (Referent.fInt Syntax.w32)) y11 8)
+e12 = (13, Rows'.sslice (Referent.rtF (Referent.fInt Syntax.w16)) y14 9)
 
 abbrev e13 : Row.Entry
-e13 = (13, Mut.mslice (Referent.rtF (Referent.fInt Syntax.w32)) y12 9)
+e13 = (14, Mut.mslice (Referent.rtF (Referent.fInt Syntax.w32)) y15 10)
 
 abbrev e14 : Row.Entry
-e14 = (14, Rows'.any-gone S·Tally.laid)
+e14 = (15, Mut.mslice (Referent.rtF (Referent.fInt Syntax.w32)) y16 11)
 
 abbrev e15 : Row.Entry
-e15 = (15, Rows'.any-gone Syntax.tyUnit)
+e15 = (16, Rows'.any-gone (Syntax.tyArray S·Link.laid 512))
 
 abbrev e16 : Row.Entry
-e16 = (16, Rows'.any-gone y0)
+e16 = (17, Rows'.any-gone S·Tally.laid)
 
 abbrev e17 : Row.Entry
-e17 = (17, Rows'.any-gone y1)
+e17 = (18, Rows'.any-gone (Syntax.tyArray S·Link.laid 512))
 
 abbrev e18 : Row.Entry
-e18 = (18, Rows'.any-gone y2)
+e18 = (19, Rows'.any-gone Syntax.tyUnit)
 
 abbrev e19 : Row.Entry
-e19 = (19, Rows'.any-gone y1)
+e19 = (20, Rows'.any-gone y0)
 
 abbrev e20 : Row.Entry
-e20 = (20, Rows'.any-gone y2)
+e20 = (21, Rows'.any-gone y1)
 
 abbrev e21 : Row.Entry
-e21 = (0, S·Tally.whole)
+e21 = (22, Rows'.any-gone y2)
 
 abbrev e22 : Row.Entry
-e22 = (1, Rows'.any-gone y13)
+e22 = (23, Rows'.any-gone y3)
 
 abbrev e23 : Row.Entry
-e23 = (3, Rows'.any-gone S·Tally.laid)
+e23 = (24, Rows'.any-gone y4)
 
 abbrev e24 : Row.Entry
-e24 = (14, S·Tally.whole)
+e24 = (25, Rows'.any-gone y3)
 
 abbrev e25 : Row.Entry
-e25 = (14, Rows'.sc-owed S·Tally.R 10)
+e25 = (26, Rows'.any-gone y4)
 
 abbrev e26 : Row.Entry
-e26 = (16, Rows'.mref S·Tally.R y0 10)
+e26 = (0, S·Tally.whole)
 
 abbrev e27 : Row.Entry
-e27 = (12, Relend.mslice-owed (Referent.rtF (Referent.fInt Syntax.w32)) y11 8 11 Row.off)
+e27 = (1, Rows'.any-gone y17)
 
 abbrev e28 : Row.Entry
-e28 = (18, Mut.mslice (Referent.rtF (Referent.fInt Syntax.w32)) y1 11)
+e28 = (3, Rows'.any-gone S·Tally.laid)
 
 abbrev e29 : Row.Entry
-e29 = (13, Relend.mslice-owed (Referent.rtF (Referent.fInt Syntax.w32)) y12 9 12 Row.off)
+e29 = (18, Rows.arrF S·Link.R 512 0)
 
 abbrev e30 : Row.Entry
-e30 = (15, Rows'.sc-here Row.sUnit)
+e30 = (16, Rows.arrF S·Link.R 512 0)
 
 abbrev e31 : Row.Entry
-e31 = (18, Mut.msleft (Referent.rtF (Referent.fInt Syntax.w32)) y1)
+e31 = (17, S·Tally.whole)
 
 abbrev e32 : Row.Entry
-e32 = (20, Mut.msleft (Referent.rtF (Referent.fInt Syntax.w32)) y1)
+e32 = (17, Rows'.sc-owed S·Tally.R 12)
+
+abbrev e33 : Row.Entry
+e33 = (20, Rows'.mref S·Tally.R y0 12)
+
+abbrev e34 : Row.Entry
+e34 = (16, Rows.arr-shr S·Link.R 512 13)
+
+abbrev e35 : Row.Entry
+e35 = (22, Rows'.sslice S·Link.R y18 13)
+
+abbrev e36 : Row.Entry
+e36 = (14, Relend.mslice-owed (Referent.rtF (Referent.fInt Syntax.w32)) y15 10 14 Row.off)
+
+abbrev e37 : Row.Entry
+e37 = (24, Mut.mslice (Referent.rtF (Referent.fInt Syntax.w32)) y3 14)
+
+abbrev e38 : Row.Entry
+e38 = (15, Relend.mslice-owed (Referent.rtF (Referent.fInt Syntax.w32)) y16 11 15 Row.off)
+
+abbrev e39 : Row.Entry
+e39 = (19, Rows'.sc-here Row.sUnit)
+
+abbrev e40 : Row.Entry
+e40 = (20, Rows'.mleft S·Tally.R y0)
+
+abbrev e41 : Row.Entry
+e41 = (24, Mut.msleft (Referent.rtF (Referent.fInt Syntax.w32)) y3)
+
+abbrev e42 : Row.Entry
+e42 = (26, Mut.msleft (Referent.rtF (Referent.fInt Syntax.w32)) y3)
 
 abbrev pub t0 : List.List Row.Entry
-t0 = List._∷_ e0 (List._∷_ e1 (List._∷_ e2 (List._∷_ e3 (List._∷_ e4 (List._∷_ e5 (List._∷_ e6 (List._∷_ e7 (List._∷_ e8 (List._∷_ e9 (List._∷_ e10 (List._∷_ e11 (List._∷_ e12 (List._∷_ e13 (List._∷_ e14 (List._∷_ e15 List.[])))))))))))))))
+t0 = List._∷_ e0 (List._∷_ e1 (List._∷_ e2 (List._∷_ (3, S·Tally.whole) (List._∷_ e3 (List._∷_ e4 (List._∷_ e5 (List._∷_ e6 (List._∷_ e7 (List._∷_ e8 (List._∷_ e9 (List._∷_ e10 (List._∷_ e11 (List._∷_ e12 (List._∷_ e13 (List._∷_ e14 List.[])))))))))))))))
 
 abbrev pub t1 : List.List Row.Entry
-t1 = List._∷_ e16 (List._∷_ e17 (List._∷_ e18 (List._∷_ e19 (List._∷_ e20 List.[]))))
+t1 = List._∷_ e15 (List._∷_ e16 (List._∷_ e17 (List._∷_ e18 (List._∷_ e19 (List._∷_ e20 (List._∷_ e21 (List._∷_ e22 (List._∷_ e23 (List._∷_ e24 (List._∷_ e25 List.[]))))))))))
 
 abbrev pub t2 : List.List Row.Entry
-t2 = List._∷_ e21 (List._∷_ e22 (List._∷_ (2, Rows'.any-gone (Syntax.tyInt Syntax.w64)) (List._∷_ e23 (List._∷_ e4 (List._∷_ e5 (List._∷_ e6 (List._∷_ e7 (List._∷_ e8 (List._∷_ e9 (List._∷_ e10 (List._∷_ e11 (List._∷_ e12 (List._∷_ e13 (List._∷_ e14 (List._∷_ e15 List.[])))))))))))))))
+t2 = List._∷_ e26 (List._∷_ e27 (List._∷_ (2, Rows'.any-gone (Syntax.tyInt Syntax.w64)) (List._∷_ e28 (List._∷_ e3 (List._∷_ e4 (List._∷_ e5 (List._∷_ e6 (List._∷_ e7 (List._∷_ e8 (List._∷_ e9 (List._∷_ e10 (List._∷_ e11 (List._∷_ e12 (List._∷_ e13 (List._∷_ e14 List.[])))))))))))))))
 
 abbrev pub t3 : List.List Row.Entry
-t3 = List._∷_ e0 (List._∷_ e1 (List._∷_ e2 (List._∷_ e3 (List._∷_ e4 (List._∷_ e5 (List._∷_ e6 (List._∷_ e7 (List._∷_ e8 (List._∷_ e9 (List._∷_ e10 (List._∷_ e11 (List._∷_ e12 (List._∷_ e13 (List._∷_ e24 (List._∷_ e15 List.[])))))))))))))))
+t3 = List._∷_ e15 (List._∷_ e16 (List._∷_ e29 (List._∷_ e18 (List._∷_ e19 (List._∷_ e20 (List._∷_ e21 (List._∷_ e22 (List._∷_ e23 (List._∷_ e24 (List._∷_ e25 List.[]))))))))))
 
 abbrev pub t4 : List.List Row.Entry
-t4 = List._∷_ e0 (List._∷_ e1 (List._∷_ e2 (List._∷_ e23 (List._∷_ e4 (List._∷_ e5 (List._∷_ e6 (List._∷_ e7 (List._∷_ e8 (List._∷_ e9 (List._∷_ e10 (List._∷_ e11 (List._∷_ e12 (List._∷_ e13 (List._∷_ e24 (List._∷_ e15 List.[])))))))))))))))
+t4 = List._∷_ e30 (List._∷_ e16 (List._∷_ e29 (List._∷_ e18 (List._∷_ e19 (List._∷_ e20 (List._∷_ e21 (List._∷_ e22 (List._∷_ e23 (List._∷_ e24 (List._∷_ e25 List.[]))))))))))
 
 abbrev pub t5 : List.List Row.Entry
-t5 = List._∷_ e0 (List._∷_ e1 (List._∷_ e2 (List._∷_ e23 (List._∷_ e4 (List._∷_ e5 (List._∷_ e6 (List._∷_ e7 (List._∷_ e8 (List._∷_ e9 (List._∷_ e10 (List._∷_ e11 (List._∷_ e12 (List._∷_ e13 (List._∷_ e25 (List._∷_ e15 List.[])))))))))))))))
+t5 = List._∷_ e30 (List._∷_ e16 (List._∷_ e17 (List._∷_ e18 (List._∷_ e19 (List._∷_ e20 (List._∷_ e21 (List._∷_ e22 (List._∷_ e23 (List._∷_ e24 (List._∷_ e25 List.[]))))))))))
 
 abbrev pub t6 : List.List Row.Entry
-t6 = List._∷_ e26 (List._∷_ e17 (List._∷_ e18 (List._∷_ e19 (List._∷_ e20 List.[]))))
+t6 = List._∷_ e30 (List._∷_ e31 (List._∷_ e17 (List._∷_ e18 (List._∷_ e19 (List._∷_ e20 (List._∷_ e21 (List._∷_ e22 (List._∷_ e23 (List._∷_ e24 (List._∷_ e25 List.[]))))))))))
 
 abbrev pub t7 : List.List Row.Entry
-t7 = List._∷_ e0 (List._∷_ e1 (List._∷_ e2 (List._∷_ e23 (List._∷_ e4 (List._∷_ e5 (List._∷_ e6 (List._∷_ e7 (List._∷_ e8 (List._∷_ e9 (List._∷_ e10 (List._∷_ e11 (List._∷_ e27 (List._∷_ e13 (List._∷_ e25 (List._∷_ e15 List.[])))))))))))))))
+t7 = List._∷_ e0 (List._∷_ e1 (List._∷_ e2 (List._∷_ e28 (List._∷_ e3 (List._∷_ e4 (List._∷_ e5 (List._∷_ e6 (List._∷_ e7 (List._∷_ e8 (List._∷_ e9 (List._∷_ e10 (List._∷_ e11 (List._∷_ e12 (List._∷_ e13 (List._∷_ e14 List.[])))))))))))))))
 
 abbrev pub t8 : List.List Row.Entry
-t8 = List._∷_ e26 (List._∷_ (17, Relend.msptr (Referent.rtF (Referent.fInt Syntax.w32)) y1 11) (List._∷_ e18 (List._∷_ e19 (List._∷_ e20 List.[]))))
+t8 = List._∷_ e30 (List._∷_ e32 (List._∷_ e17 (List._∷_ e18 (List._∷_ e33 (List._∷_ e20 (List._∷_ e21 (List._∷_ e22 (List._∷_ e23 (List._∷_ e24 (List._∷_ e25 List.[]))))))))))
 
 abbrev pub t9 : List.List Row.Entry
-t9 = List._∷_ e26 (List._∷_ e17 (List._∷_ e28 (List._∷_ e19 (List._∷_ e20 List.[]))))
+t9 = List._∷_ e34 (List._∷_ e32 (List._∷_ e17 (List._∷_ e18 (List._∷_ e33 (List._∷_ (21, Relend.ssptr S·Link.R y1 13) (List._∷_ e21 (List._∷_ e22 (List._∷_ e23 (List._∷_ e24 (List._∷_ e25 List.[]))))))))))
 
 abbrev pub t10 : List.List Row.Entry
-t10 = List._∷_ e0 (List._∷_ e1 (List._∷_ e2 (List._∷_ e23 (List._∷_ e4 (List._∷_ e5 (List._∷_ e6 (List._∷_ e7 (List._∷_ e8 (List._∷_ e9 (List._∷_ e10 (List._∷_ e11 (List._∷_ e27 (List._∷_ e29 (List._∷_ e25 (List._∷_ e15 List.[])))))))))))))))
+t10 = List._∷_ e34 (List._∷_ e32 (List._∷_ e17 (List._∷_ e18 (List._∷_ e33 (List._∷_ e20 (List._∷_ e35 (List._∷_ e22 (List._∷_ e23 (List._∷_ e24 (List._∷_ e25 List.[]))))))))))
 
 abbrev pub t11 : List.List Row.Entry
-t11 = List._∷_ e26 (List._∷_ e17 (List._∷_ e28 (List._∷_ (19, Relend.msptr (Referent.rtF (Referent.fInt Syntax.w32)) y1 12) (List._∷_ e20 List.[]))))
+t11 = List._∷_ e0 (List._∷_ e1 (List._∷_ e2 (List._∷_ e28 (List._∷_ e3 (List._∷_ e4 (List._∷_ e5 (List._∷_ e6 (List._∷_ e7 (List._∷_ e8 (List._∷_ e9 (List._∷_ e10 (List._∷_ e11 (List._∷_ e12 (List._∷_ e36 (List._∷_ e14 List.[])))))))))))))))
 
 abbrev pub t12 : List.List Row.Entry
-t12 = List._∷_ e26 (List._∷_ e17 (List._∷_ e28 (List._∷_ e19 (List._∷_ (20, Mut.mslice (Referent.rtF (Referent.fInt Syntax.w32)) y1 12) List.[]))))
+t12 = List._∷_ e34 (List._∷_ e32 (List._∷_ e17 (List._∷_ e18 (List._∷_ e33 (List._∷_ e20 (List._∷_ e35 (List._∷_ (23, Relend.msptr (Referent.rtF (Referent.fInt Syntax.w32)) y3 14) (List._∷_ e23 (List._∷_ e24 (List._∷_ e25 List.[]))))))))))
 
 abbrev pub t13 : List.List Row.Entry
-t13 = List._∷_ e0 (List._∷_ e1 (List._∷_ e2 (List._∷_ e23 (List._∷_ e4 (List._∷_ e5 (List._∷_ e6 (List._∷_ e7 (List._∷_ e8 (List._∷_ e9 (List._∷_ e10 (List._∷_ e11 (List._∷_ e27 (List._∷_ e29 (List._∷_ e25 (List._∷_ e30 List.[])))))))))))))))
+t13 = List._∷_ e34 (List._∷_ e32 (List._∷_ e17 (List._∷_ e18 (List._∷_ e33 (List._∷_ e20 (List._∷_ e35 (List._∷_ e22 (List._∷_ e37 (List._∷_ e24 (List._∷_ e25 List.[]))))))))))
 
 abbrev pub t14 : List.List Row.Entry
-t14 = List._∷_ (16, Rows'.mleft S·Tally.R y0) (List._∷_ e17 (List._∷_ e31 (List._∷_ e19 (List._∷_ e32 List.[]))))
+t14 = List._∷_ e0 (List._∷_ e1 (List._∷_ e2 (List._∷_ e28 (List._∷_ e3 (List._∷_ e4 (List._∷_ e5 (List._∷_ e6 (List._∷_ e7 (List._∷_ e8 (List._∷_ e9 (List._∷_ e10 (List._∷_ e11 (List._∷_ e12 (List._∷_ e36 (List._∷_ e38 List.[])))))))))))))))
 
 abbrev pub t15 : List.List Row.Entry
-t15 = List._∷_ e0 (List._∷_ e22 (List._∷_ e2 (List._∷_ e23 (List._∷_ e4 (List._∷_ e5 (List._∷_ e6 (List._∷_ e7 (List._∷_ e8 (List._∷_ e9 (List._∷_ e10 (List._∷_ e11 (List._∷_ e27 (List._∷_ e29 (List._∷_ e25 (List._∷_ e30 List.[])))))))))))))))
+t15 = List._∷_ e34 (List._∷_ e32 (List._∷_ e17 (List._∷_ e18 (List._∷_ e33 (List._∷_ e20 (List._∷_ e35 (List._∷_ e22 (List._∷_ e37 (List._∷_ (25, Relend.msptr (Referent.rtF (Referent.fInt Syntax.w32)) y3 15) (List._∷_ e25 List.[]))))))))))
 
 abbrev pub t16 : List.List Row.Entry
-t16 = List._∷_ e0 (List._∷_ e22 (List._∷_ e2 (List._∷_ e23 (List._∷_ e4 (List._∷_ e5 (List._∷_ e6 (List._∷_ e7 (List._∷_ e8 (List._∷_ e9 (List._∷_ e10 (List._∷_ e11 (List._∷_ e27 (List._∷_ e29 (List._∷_ e25 (List._∷_ e15 List.[])))))))))))))))
+t16 = List._∷_ e34 (List._∷_ e32 (List._∷_ e17 (List._∷_ e18 (List._∷_ e33 (List._∷_ e20 (List._∷_ e35 (List._∷_ e22 (List._∷_ e37 (List._∷_ e24 (List._∷_ (26, Mut.mslice (Referent.rtF (Referent.fInt Syntax.w32)) y3 15) List.[]))))))))))
 
 abbrev pub t17 : List.List Row.Entry
-t17 = List._∷_ e0 (List._∷_ e22 (List._∷_ e2 (List._∷_ e23 (List._∷_ e4 (List._∷_ e5 (List._∷_ e6 (List._∷_ e7 (List._∷_ e8 (List._∷_ e9 (List._∷_ e10 (List._∷_ e11 (List._∷_ e27 (List._∷_ e29 (List._∷_ e24 (List._∷_ e15 List.[])))))))))))))))
+t17 = List._∷_ e34 (List._∷_ e32 (List._∷_ e17 (List._∷_ e39 (List._∷_ e40 (List._∷_ e20 (List._∷_ e35 (List._∷_ e22 (List._∷_ e41 (List._∷_ e24 (List._∷_ e42 List.[]))))))))))
 
 abbrev pub t18 : List.List Row.Entry
-t18 = List._∷_ e16 (List._∷_ e17 (List._∷_ e31 (List._∷_ e19 (List._∷_ e32 List.[]))))
+t18 = List._∷_ e34 (List._∷_ e32 (List._∷_ e17 (List._∷_ e39 (List._∷_ e40 (List._∷_ e20 (List._∷_ e21 (List._∷_ e22 (List._∷_ e41 (List._∷_ e24 (List._∷_ e42 List.[]))))))))))
 
 abbrev pub t19 : List.List Row.Entry
-t19 = List._∷_ e0 (List._∷_ e22 (List._∷_ e2 (List._∷_ e23 (List._∷_ e4 (List._∷_ e5 (List._∷_ e6 (List._∷_ e7 (List._∷_ e8 (List._∷_ e9 (List._∷_ e10 (List._∷_ e11 (List._∷_ e12 (List._∷_ e29 (List._∷_ e24 (List._∷_ e15 List.[])))))))))))))))
+t19 = List._∷_ e0 (List._∷_ e27 (List._∷_ e2 (List._∷_ e28 (List._∷_ e3 (List._∷_ e4 (List._∷_ e5 (List._∷_ e6 (List._∷_ e7 (List._∷_ e8 (List._∷_ e9 (List._∷_ e10 (List._∷_ e11 (List._∷_ e12 (List._∷_ e36 (List._∷_ e38 List.[])))))))))))))))
 
 abbrev pub t20 : List.List Row.Entry
-t20 = List._∷_ e16 (List._∷_ e17 (List._∷_ e18 (List._∷_ e19 (List._∷_ e32 List.[]))))
+t20 = List._∷_ e34 (List._∷_ e32 (List._∷_ e17 (List._∷_ e18 (List._∷_ e40 (List._∷_ e20 (List._∷_ e21 (List._∷_ e22 (List._∷_ e41 (List._∷_ e24 (List._∷_ e42 List.[]))))))))))
 
 abbrev pub t21 : List.List Row.Entry
-t21 = List._∷_ e0 (List._∷_ e22 (List._∷_ e2 (List._∷_ e23 (List._∷_ e4 (List._∷_ e5 (List._∷_ e6 (List._∷_ e7 (List._∷_ e8 (List._∷_ e9 (List._∷_ e10 (List._∷_ e11 (List._∷_ e12 (List._∷_ e13 (List._∷_ e24 (List._∷_ e15 List.[])))))))))))))))
+t21 = List._∷_ e34 (List._∷_ e31 (List._∷_ e17 (List._∷_ e18 (List._∷_ e19 (List._∷_ e20 (List._∷_ e21 (List._∷_ e22 (List._∷_ e41 (List._∷_ e24 (List._∷_ e42 List.[]))))))))))
 
 abbrev pub t22 : List.List Row.Entry
-t22 = List._∷_ e21 (List._∷_ e22 (List._∷_ e2 (List._∷_ e23 (List._∷_ e4 (List._∷_ e5 (List._∷_ e6 (List._∷_ e7 (List._∷_ e8 (List._∷_ e9 (List._∷_ e10 (List._∷_ e11 (List._∷_ e12 (List._∷_ e13 (List._∷_ e24 (List._∷_ e15 List.[])))))))))))))))
+t22 = List._∷_ e30 (List._∷_ e31 (List._∷_ e17 (List._∷_ e18 (List._∷_ e19 (List._∷_ e20 (List._∷_ e21 (List._∷_ e22 (List._∷_ e41 (List._∷_ e24 (List._∷_ e42 List.[]))))))))))
 
 abbrev pub t23 : List.List Row.Entry
-t23 = List._∷_ e21 (List._∷_ e22 (List._∷_ e2 (List._∷_ e23 (List._∷_ e4 (List._∷_ e5 (List._∷_ e6 (List._∷_ e7 (List._∷_ e8 (List._∷_ e9 (List._∷_ e10 (List._∷_ e11 (List._∷_ e12 (List._∷_ e13 (List._∷_ e14 (List._∷_ e15 List.[])))))))))))))))
+t23 = List._∷_ e15 (List._∷_ e31 (List._∷_ e17 (List._∷_ e18 (List._∷_ e19 (List._∷_ e20 (List._∷_ e21 (List._∷_ e22 (List._∷_ e41 (List._∷_ e24 (List._∷_ e42 List.[]))))))))))
+
+abbrev pub t24 : List.List Row.Entry
+t24 = List._∷_ e0 (List._∷_ e27 (List._∷_ e2 (List._∷_ e28 (List._∷_ e3 (List._∷_ e4 (List._∷_ e5 (List._∷_ e6 (List._∷_ e7 (List._∷_ e8 (List._∷_ e9 (List._∷_ e10 (List._∷_ e11 (List._∷_ e12 (List._∷_ e13 (List._∷_ e38 List.[])))))))))))))))
+
+abbrev pub t25 : List.List Row.Entry
+t25 = List._∷_ e15 (List._∷_ e31 (List._∷_ e17 (List._∷_ e18 (List._∷_ e19 (List._∷_ e20 (List._∷_ e21 (List._∷_ e22 (List._∷_ e23 (List._∷_ e24 (List._∷_ e42 List.[]))))))))))
+
+abbrev pub t26 : List.List Row.Entry
+t26 = List._∷_ e0 (List._∷_ e27 (List._∷_ e2 (List._∷_ e28 (List._∷_ e3 (List._∷_ e4 (List._∷_ e5 (List._∷_ e6 (List._∷_ e7 (List._∷_ e8 (List._∷_ e9 (List._∷_ e10 (List._∷_ e11 (List._∷_ e12 (List._∷_ e13 (List._∷_ e14 List.[])))))))))))))))
+
+abbrev pub t27 : List.List Row.Entry
+t27 = List._∷_ e15 (List._∷_ e31 (List._∷_ e17 (List._∷_ e18 (List._∷_ e19 (List._∷_ e20 (List._∷_ e21 (List._∷_ e22 (List._∷_ e23 (List._∷_ e24 (List._∷_ e25 List.[]))))))))))
+
+abbrev pub t28 : List.List Row.Entry
+t28 = List._∷_ e26 (List._∷_ e27 (List._∷_ e2 (List._∷_ e28 (List._∷_ e3 (List._∷_ e4 (List._∷_ e5 (List._∷_ e6 (List._∷_ e7 (List._∷_ e8 (List._∷_ e9 (List._∷_ e10 (List._∷_ e11 (List._∷_ e12 (List._∷_ e13 (List._∷_ e14 List.[])))))))))))))))
 
 abbrev pub T0 : Row.Cx
 T0 = record { locals = List._++_ t0 t1; slots = List.[] }
@@ -377,316 +475,415 @@ abbrev pub T11 : Row.Cx
 T11 = record { locals = List._++_ t0 t1; slots = List.[] }
 
 abbrev pub T12 : Row.Cx
-T12 = record { locals = List._++_ t3 t1; slots = List.[] }
+T12 = record { locals = List._++_ t0 t1; slots = List.[] }
 
 abbrev pub T13 : Row.Cx
-T13 = record { locals = List._++_ t4 t1; slots = List.[] }
+T13 = record { locals = List._++_ t0 t1; slots = List.[] }
+
+abbrev pub T14 : Row.Cx
+T14 = record { locals = List._++_ t0 t3; slots = List.[] }
 
 abbrev pub T15 : Row.Cx
-T15 = record { locals = List._++_ t5 t6; slots = List.[] }
+T15 = record { locals = List._++_ t0 t4; slots = List.[] }
+
+abbrev pub T16 : Row.Cx
+T16 = record { locals = List._++_ t0 t5; slots = List.[] }
 
 abbrev pub T17 : Row.Cx
-T17 = record { locals = List._++_ t7 t8; slots = List.[] }
+T17 = record { locals = List._++_ t0 t6; slots = List.[] }
 
 abbrev pub T18 : Row.Cx
-T18 = record { locals = List._++_ t7 t9; slots = List.[] }
+T18 = record { locals = List._++_ t7 t6; slots = List.[] }
 
 abbrev pub T20 : Row.Cx
-T20 = record { locals = List._++_ t10 t11; slots = List.[] }
-
-abbrev pub T21 : Row.Cx
-T21 = record { locals = List._++_ t10 t12; slots = List.[] }
+T20 = record { locals = List._++_ t7 t8; slots = List.[] }
 
 abbrev pub T22 : Row.Cx
-T22 = record { locals = List._++_ t13 t14; slots = List.[] }
+T22 = record { locals = List._++_ t7 t9; slots = List.[] }
 
 abbrev pub T23 : Row.Cx
-T23 = record { locals = List._++_ t15 t14; slots = List.[] }
+T23 = record { locals = List._++_ t7 t10; slots = List.[] }
 
-abbrev pub T24 : Row.Cx
-T24 = record { locals = List._++_ t16 t14; slots = List.[] }
+abbrev pub T25 : Row.Cx
+T25 = record { locals = List._++_ t11 t12; slots = List.[] }
 
 abbrev pub T26 : Row.Cx
-T26 = record { locals = List._++_ t17 t18; slots = List.[] }
+T26 = record { locals = List._++_ t11 t13; slots = List.[] }
+
+abbrev pub T28 : Row.Cx
+T28 = record { locals = List._++_ t14 t15; slots = List.[] }
 
 abbrev pub T29 : Row.Cx
-T29 = record { locals = List._++_ t19 t20; slots = List.[] }
+T29 = record { locals = List._++_ t14 t16; slots = List.[] }
 
 abbrev pub T30 : Row.Cx
-T30 = record { locals = List._++_ t19 t20; slots = List.[] }
+T30 = record { locals = List._++_ t14 t17; slots = List.[] }
+
+abbrev pub T31 : Row.Cx
+T31 = record { locals = List._++_ t14 t18; slots = List.[] }
+
+abbrev pub T32 : Row.Cx
+T32 = record { locals = List._++_ t19 t18; slots = List.[] }
 
 abbrev pub T33 : Row.Cx
-T33 = record { locals = List._++_ t21 t1; slots = List.[] }
+T33 = record { locals = List._++_ t19 t20; slots = List.[] }
 
-abbrev pub T34 : Row.Cx
-T34 = record { locals = List._++_ t21 t1; slots = List.[] }
-
-abbrev pub T36 : Row.Cx
-T36 = record { locals = List._++_ t22 t1; slots = List.[] }
-
-abbrev pub T37 : Row.Cx
-T37 = record { locals = List._++_ t23 t1; slots = List.[] }
+abbrev pub T35 : Row.Cx
+T35 = record { locals = List._++_ t19 t21; slots = List.[] }
 
 abbrev pub T38 : Row.Cx
-T38 = record { locals = List._++_ t2 t1; slots = List.[] }
+T38 = record { locals = List._++_ t19 t22; slots = List.[] }
+
+abbrev pub T40 : Row.Cx
+T40 = record { locals = List._++_ t19 t23; slots = List.[] }
+
+abbrev pub T42 : Row.Cx
+T42 = record { locals = List._++_ t24 t25; slots = List.[] }
+
+abbrev pub T43 : Row.Cx
+T43 = record { locals = List._++_ t24 t25; slots = List.[] }
+
+abbrev pub T46 : Row.Cx
+T46 = record { locals = List._++_ t26 t27; slots = List.[] }
+
+abbrev pub T47 : Row.Cx
+T47 = record { locals = List._++_ t26 t27; slots = List.[] }
+
+abbrev pub T49 : Row.Cx
+T49 = record { locals = List._++_ t28 t27; slots = List.[] }
+
+abbrev pub T50 : Row.Cx
+T50 = record { locals = List._++_ t28 t1; slots = List.[] }
+
+abbrev pub T51 : Row.Cx
+T51 = record { locals = List._++_ t2 t1; slots = List.[] }
 
 abbrev pub O0 : Typed.Outs
 O0 = record { next = Option.none; exits = List.[]; returns = Option.some T1 }
 
 module _ (claims· : Claims) where
   abbrev s0 : Typed.Gives T0 T2
-  s0 = Know.k-shs-known (Referent.fInt Syntax.w32) T0 4 0 y3 Row.off 0 λ x. x
+  s0 = Know.k-shs-known (Referent.fInt Syntax.w32) T0 4 0 y5 Row.off 0 λ x. x
 
   abbrev s1 : Typed.Gives T2 T3
-  s1 = Know.k-shs-known (Referent.fInt Syntax.w8) T2 5 1 y4 Row.off 0 λ x. x
+  s1 = Know.k-shs-known (Referent.fInt Syntax.w8) T2 5 1 y6 Row.off 0 λ x. x
 
   abbrev s2 : Typed.Gives T3 T4
-  s2 = Know.k-shs-known (Referent.fInt Syntax.w16) T3 6 2 y5 Row.off 0 λ x. x
+  s2 = Know.k-shs-known (Referent.fInt Syntax.w8) T3 6 2 y7 Row.off 0 λ x. x
 
   abbrev s3 : Typed.Gives T4 T5
-  s3 = Know.k-shs-known (Referent.fInt Syntax.w16) T4 7 3 y6 Row.off 0 λ x. x
+  s3 = Know.k-shs-known (Referent.fInt Syntax.w8) T4 7 3 y8 Row.off 0 λ x. x
 
   abbrev s4 : Typed.Gives T5 T6
-  s4 = Know.k-shs-known (Referent.fInt Syntax.w16) T5 8 4 y7 Row.off 0 λ x. x
+  s4 = Know.k-shs-known (Referent.fInt Syntax.w16) T5 8 4 y9 Row.off 0 λ x. x
 
   abbrev s5 : Typed.Gives T6 T7
-  s5 = Know.k-shs-known (Referent.fInt Syntax.w32) T6 9 5 y8 Row.off 0 λ x. x
+  s5 = Know.k-shs-known (Referent.fInt Syntax.w16) T6 9 5 y10 Row.off 0 λ x. x
 
   abbrev s6 : Typed.Gives T7 T8
-  s6 = Know.k-shs-known (Referent.fInt Syntax.w32) T7 10 6 y9 Row.off 0 λ x. x
+  s6 = Know.k-shs-known (Referent.fInt Syntax.w16) T7 10 6 y11 Row.off 0 λ x. x
 
   abbrev s7 : Typed.Gives T8 T9
-  s7 = Know.k-shs-known (Referent.fInt Syntax.w16) T8 11 7 y10 Row.off 0 λ x. x
+  s7 = Know.k-shs-known (Referent.fInt Syntax.w32) T8 11 7 y12 Row.off 0 λ x. x
 
   abbrev s8 : Typed.Gives T9 T10
-  s8 = Know.k-sl-known (Referent.fInt Syntax.w32) T9 12 8 y11 Row.off 0 λ x. x
+  s8 = Know.k-shs-known (Referent.fInt Syntax.w32) T9 12 8 y13 Row.off 0 λ x. x
 
   abbrev s9 : Typed.Gives T10 T11
-  s9 = Know.k-sl-known (Referent.fInt Syntax.w32) T10 13 9 y12 Row.off 0 λ x. x
+  s9 = Know.k-shs-known (Referent.fInt Syntax.w16) T10 13 9 y14 Row.off 0 λ x. x
 
-  abbrev s10 : Typed.Mo T11 → Typed.Mo T12
-  s10 = LocalCopy.n-val-copy T11 3 14 S·Tally.R S·Tally.whole S·Tally.whole (λ x. x) (λ x. x) λ x. x
+  abbrev s10 : Typed.Gives T11 T12
+  s10 = Know.k-sl-known (Referent.fInt Syntax.w32) T11 14 10 y15 Row.off 0 λ x. x
 
-  abbrev s11 : Typed.Mo T12 → Typed.Mo T13
-  s11 = Scalar.n-room T12 3 S·Tally.laid
+  abbrev s11 : Typed.Gives T12 T13
+  s11 = Know.k-sl-known (Referent.fInt Syntax.w32) T12 15 11 y16 Row.off 0 λ x. x
 
-  abbrev s13 : Typed.Gives T13 T15
-  s13 = Local.k-sc-borrow T13 14 16 10 S·Tally.R y0 λ x. x
+  abbrev s12 : Typed.Both T13 T14
+  s12 = Call.callB ps·0 r·0 (claims· .0) (claims· .1) T13 (Num.vFld 1 (List._∷_ (Syntax.field 1) List.[]) 8 λ x. SheetHeld.struct .as-values x .1 .0, (record { pos = 5; ty = Syntax.tyRef (Syntax.named 1) Syntax.imm (Syntax.tyInt Syntax.w8); ref = λ x. x }, (record { pos = 6; ty = Syntax.tyRef (Syntax.named 2) Syntax.imm (Syntax.tyInt Syntax.w8); ref = λ x. x }, (record { pos = 7; ty = Syntax.tyRef (Syntax.named 3) Syntax.imm (Syntax.tyInt Syntax.w8); ref = λ x. x }, (record { pos = 12; ty = Syntax.tyRef (Syntax.named 8) Syntax.imm (Syntax.tyInt Syntax.w32); ref = λ x. x }, tt))))) 18 (List._∷_ 1 (List._∷_ 2 (List._∷_ 3 (List._∷_ 8 List.[])))) (Syntax.tyArray S·Link.laid 512)
 
-  abbrev s15 : Typed.Gives T15 T17
-  s15 = Relend.k-sl-relend (Referent.rtF (Referent.fInt Syntax.w32)) T15 12 17 8 11 y11 y1 Row.off λ x. x
+  abbrev s13 : Typed.Mo T14 → Typed.Mo T15
+  s13 = LocalCopy.n-val-copy T14 18 16 (Array'.Array S·Link.R 512) (Rows.arrF S·Link.R 512 0) (Rows.arrF S·Link.R 512 0) (λ x. x) (λ x. x) λ x. x
 
-  abbrev s16 : Typed.Asks T17 T18
-  s16 = Relend.k-sl-aggregate (Referent.rtF (Referent.fInt Syntax.w32)) (Relend.asMut (Referent.rtF (Referent.fInt Syntax.w32))) T17 17 18 11 y1 y1 (λ x. x) (Scalar.oFld 12 (List._∷_ (Syntax.field 1) List.[]) (Syntax.tyInt Syntax.w64) 8 λ v. Shared.lenV (v .0))
+  abbrev s14 : Typed.Mo T15 → Typed.Mo T16
+  s14 = Scalar.n-room T15 18 (Syntax.tyArray S·Link.laid 512)
+
+  abbrev s15 : Typed.Mo T16 → Typed.Mo T17
+  s15 = LocalCopy.n-val-copy T16 3 17 S·Tally.R S·Tally.whole S·Tally.whole (λ x. x) (λ x. x) λ x. x
+
+  abbrev s16 : Typed.Mo T17 → Typed.Mo T18
+  s16 = Scalar.n-room T17 3 S·Tally.laid
 
   abbrev s18 : Typed.Gives T18 T20
-  s18 = Relend.k-sl-relend (Referent.rtF (Referent.fInt Syntax.w32)) T18 13 19 9 12 y12 y1 Row.off λ x. x
+  s18 = Local.k-sc-borrow T18 17 20 12 S·Tally.R y0 λ x. x
 
-  abbrev s19 : Typed.Asks T20 T21
-  s19 = Relend.k-sl-aggregate (Referent.rtF (Referent.fInt Syntax.w32)) (Relend.asMut (Referent.rtF (Referent.fInt Syntax.w32))) T20 19 20 12 y1 y1 (λ x. x) (Scalar.oFld 13 (List._∷_ (Syntax.field 1) List.[]) (Syntax.tyInt Syntax.w64) 8 λ v. Shared.lenV (v .0))
+  abbrev s20 : Typed.Gives T20 T22
+  s20 = Share.k-arr-share S·Link.R T20 16 21 512 13 y1 λ x. x
 
-  abbrev s20 : Typed.Both T21 T22
-  s20 = Call.callB ps·0 r·0 (claims· .0) (claims· .1) T21 (record { pos = 1; st = List.[]; d = 0; at = λ x. x }, (Num.vAt 2 λ x. x, (record { pos = 16; ty = Syntax.tyRef Syntax.erased Syntax.mut S·Tally.behind; ref = λ x. x }, (record { pos = 4; ty = Syntax.tyRef (Syntax.named 0) Syntax.imm (Syntax.tyInt Syntax.w32); ref = λ x. x }, (record { pos = 5; ty = Syntax.tyRef (Syntax.named 1) Syntax.imm (Syntax.tyInt Syntax.w8); ref = λ x. x }, (record { pos = 6; ty = Syntax.tyRef (Syntax.named 2) Syntax.imm (Syntax.tyInt Syntax.w16); ref = λ x. x }, (record { pos = 7; ty = Syntax.tyRef (Syntax.named 3) Syntax.imm (Syntax.tyInt Syntax.w16); ref = λ x. x }, (record { pos = 8; ty = Syntax.tyRef (Syntax.named 4) Syntax.imm (Syntax.tyInt Syntax.w16); ref = λ x. x }, (record { pos = 9; ty = Syntax.tyRef (Syntax.named 5) Syntax.imm (Syntax.tyInt Syntax.w32); ref = λ x. x }, (record { pos = 10; ty = Syntax.tyRef (Syntax.named 6) Syntax.imm (Syntax.tyInt Syntax.w32); ref = λ x. x }, (record { pos = 11; ty = Syntax.tyRef (Syntax.named 7) Syntax.imm (Syntax.tyInt Syntax.w16); ref = λ x. x }, (record { pos = 18; ty = Syntax.tyRef Syntax.erased Syntax.mut (Syntax.tyInt Syntax.w32); ref = λ x. x }, (record { pos = 20; ty = Syntax.tyRef Syntax.erased Syntax.mut (Syntax.tyInt Syntax.w32); ref = λ x. x }, tt))))))))))))) 15 (List._∷_ 10 (List._∷_ 0 (List._∷_ 1 (List._∷_ 2 (List._∷_ 3 (List._∷_ 4 (List._∷_ 5 (List._∷_ 6 (List._∷_ 7 (List._∷_ 11 (List._∷_ 12 List.[]))))))))))) Syntax.tyUnit
+  abbrev s21 : Typed.Asks T22 T23
+  s21 = Relend.k-sl-aggregate S·Link.R (Relend.asShr S·Link.R) T22 21 22 13 y1 y18 (λ x. x) (Scalar.oInt Syntax.w64 512)
 
-  abbrev s21 : Typed.Mo T22 → Typed.Mo T23
-  s21 = Scalar.n-room T22 1 y13
+  abbrev s23 : Typed.Gives T23 T25
+  s23 = Relend.k-sl-relend (Referent.rtF (Referent.fInt Syntax.w32)) T23 14 23 10 14 y15 y3 Row.off λ x. x
 
-  abbrev s22 : Typed.Mo T23 → Typed.Mo T24
-  s22 = Scalar.n-room T23 15 Syntax.tyUnit
+  abbrev s24 : Typed.Asks T25 T26
+  s24 = Relend.k-sl-aggregate (Referent.rtF (Referent.fInt Syntax.w32)) (Relend.asMut (Referent.rtF (Referent.fInt Syntax.w32))) T25 23 24 14 y3 y3 (λ x. x) (Scalar.oFld 14 (List._∷_ (Syntax.field 1) List.[]) (Syntax.tyInt Syntax.w64) 8 λ v. Shared.lenV (v .0))
 
-  abbrev s24 : Typed.Asks T24 T26
-  s24 = Local.k-back-sc T24 16 14 10 S·Tally.R y0 S·Tally.whole (λ x. x) (λ x. x) λ x. x
+  abbrev s26 : Typed.Gives T26 T28
+  s26 = Relend.k-sl-relend (Referent.rtF (Referent.fInt Syntax.w32)) T26 15 25 11 15 y16 y3 Row.off λ x. x
 
-  abbrev s27 : Typed.Both T26 T29
-  s27 = Relend.k-back-sl (Referent.rtF (Referent.fInt Syntax.w32)) T26 18 12 8 11 y11 y1 Row.off (λ x. x) λ x. x
+  abbrev s27 : Typed.Asks T28 T29
+  s27 = Relend.k-sl-aggregate (Referent.rtF (Referent.fInt Syntax.w32)) (Relend.asMut (Referent.rtF (Referent.fInt Syntax.w32))) T28 25 26 15 y3 y3 (λ x. x) (Scalar.oFld 15 (List._∷_ (Syntax.field 1) List.[]) (Syntax.tyInt Syntax.w64) 8 λ v. Shared.lenV (v .0))
 
-  abbrev s28 : Typed.Gives T29 T30
-  s28 = Know.k-sl-known (Referent.fInt Syntax.w32) T29 12 8 y11 Row.off 0 λ x. x
+  abbrev s28 : Typed.Both T29 T30
+  s28 = Call.callB ps·1 r·1 (claims· .2) (claims· .3) T29 (record { pos = 1; st = List.[]; d = 0; at = λ x. x }, (Num.vAt 2 λ x. x, (record { pos = 20; ty = Syntax.tyRef Syntax.erased Syntax.mut S·Tally.behind; ref = λ x. x }, (record { pos = 4; ty = Syntax.tyRef (Syntax.named 0) Syntax.imm (Syntax.tyInt Syntax.w32); ref = λ x. x }, (record { pos = 22; ty = Syntax.tyRef Syntax.erased Syntax.imm S·Link.behind; ref = λ x. x }, (record { pos = 8; ty = Syntax.tyRef (Syntax.named 4) Syntax.imm (Syntax.tyInt Syntax.w16); ref = λ x. x }, (record { pos = 9; ty = Syntax.tyRef (Syntax.named 5) Syntax.imm (Syntax.tyInt Syntax.w16); ref = λ x. x }, (record { pos = 10; ty = Syntax.tyRef (Syntax.named 6) Syntax.imm (Syntax.tyInt Syntax.w16); ref = λ x. x }, (record { pos = 11; ty = Syntax.tyRef (Syntax.named 7) Syntax.imm (Syntax.tyInt Syntax.w32); ref = λ x. x }, (record { pos = 12; ty = Syntax.tyRef (Syntax.named 8) Syntax.imm (Syntax.tyInt Syntax.w32); ref = λ x. x }, (record { pos = 13; ty = Syntax.tyRef (Syntax.named 9) Syntax.imm (Syntax.tyInt Syntax.w16); ref = λ x. x }, (record { pos = 24; ty = Syntax.tyRef Syntax.erased Syntax.mut (Syntax.tyInt Syntax.w32); ref = λ x. x }, (record { pos = 26; ty = Syntax.tyRef Syntax.erased Syntax.mut (Syntax.tyInt Syntax.w32); ref = λ x. x }, tt))))))))))))) 19 (List._∷_ 12 (List._∷_ 0 (List._∷_ 13 (List._∷_ 4 (List._∷_ 5 (List._∷_ 6 (List._∷_ 7 (List._∷_ 8 (List._∷_ 9 (List._∷_ 14 (List._∷_ 15 List.[]))))))))))) Syntax.tyUnit
 
-  abbrev s31 : Typed.Both T30 T33
-  s31 = Relend.k-back-sl (Referent.rtF (Referent.fInt Syntax.w32)) T30 20 13 9 12 y12 y1 Row.off (λ x. x) λ x. x
+  abbrev s29 : Typed.Mo T30 → Typed.Mo T31
+  s29 = Scalar.n-room T30 22 y2
 
-  abbrev s32 : Typed.Gives T33 T34
-  s32 = Know.k-sl-known (Referent.fInt Syntax.w32) T33 13 9 y12 Row.off 0 λ x. x
+  abbrev s30 : Typed.Mo T31 → Typed.Mo T32
+  s30 = Scalar.n-room T31 1 y17
 
-  abbrev s34 : Typed.Mo T34 → Typed.Mo T36
-  s34 = LocalCopy.n-val-copy T34 14 0 S·Tally.R S·Tally.whole S·Tally.whole (λ x. x) (λ x. x) λ x. x
+  abbrev s31 : Typed.Mo T32 → Typed.Mo T33
+  s31 = Scalar.n-room T32 19 Syntax.tyUnit
 
-  abbrev s35 : Typed.Mo T36 → Typed.Mo T37
-  s35 = Scalar.n-room T36 14 S·Tally.laid
+  abbrev s33 : Typed.Asks T33 T35
+  s33 = Local.k-back-sc T33 20 17 12 S·Tally.R y0 S·Tally.whole (λ x. x) (λ x. x) λ x. x
 
-  abbrev s36 : Typed.Mo T37 → Typed.Mo T38
-  s36 = Scalar.n-room T37 2 (Syntax.tyInt Syntax.w64)
+  abbrev s36 : Typed.Mo T35 → Typed.Mo T38
+  s36 = Share.n-back-arr-shr S·Link.R T35 16 512 13 λ x. x
 
-  module _ (Pre· : (κs : Lifetimes.Lfts 10) → Kinds.Dens κs ps → Type 0) (Post· : (κs : Lifetimes.Lfts 10) → (a : Kinds.Dens κs ps) → Kinds.Plain 10 ps r κs) where
+  abbrev s38 : Typed.Mo T38 → Typed.Mo T40
+  s38 = Scalar.n-room T38 16 (Syntax.tyArray S·Link.laid 512)
+
+  abbrev s40 : Typed.Both T40 T42
+  s40 = Relend.k-back-sl (Referent.rtF (Referent.fInt Syntax.w32)) T40 24 14 10 14 y15 y3 Row.off (λ x. x) λ x. x
+
+  abbrev s41 : Typed.Gives T42 T43
+  s41 = Know.k-sl-known (Referent.fInt Syntax.w32) T42 14 10 y15 Row.off 0 λ x. x
+
+  abbrev s44 : Typed.Both T43 T46
+  s44 = Relend.k-back-sl (Referent.rtF (Referent.fInt Syntax.w32)) T43 26 15 11 15 y16 y3 Row.off (λ x. x) λ x. x
+
+  abbrev s45 : Typed.Gives T46 T47
+  s45 = Know.k-sl-known (Referent.fInt Syntax.w32) T46 15 11 y16 Row.off 0 λ x. x
+
+  abbrev s47 : Typed.Mo T47 → Typed.Mo T49
+  s47 = LocalCopy.n-val-copy T47 17 0 S·Tally.R S·Tally.whole S·Tally.whole (λ x. x) (λ x. x) λ x. x
+
+  abbrev s48 : Typed.Mo T49 → Typed.Mo T50
+  s48 = Scalar.n-room T49 17 S·Tally.laid
+
+  abbrev s49 : Typed.Mo T50 → Typed.Mo T51
+  s49 = Scalar.n-room T50 2 (Syntax.tyInt Syntax.w64)
+
+  module _ (Pre· : (κs : Lifetimes.Lfts 12) → Kinds.Dens κs ps → Type 0) (Post· : (κs : Lifetimes.Lfts 12) → (a : Kinds.Dens κs ps) → Kinds.Plain 12 ps r κs) where
     module _ (M : Type 1) where
       abbrev pub Closed : Type 2
-      Closed = (𝓤 : URA.URA M) (H : Wp.Heap 𝓤) (A : Atoms.Atoms 𝓤) (W : Kit.Given 𝓤 H A) (𝓣 : Wp.Tables 𝓤 H) (known0 : Plain.Known 𝓤 H A W 𝓣 11 ps·0 r·0 (claims· .0) (claims· .1) "messages::deliver") → Statement.Triple 𝓤 (Wp.WpFn 𝓤 H (𝓣 .C) (𝓣 .Λ) (Function.fnOf 10 ps r xs m hs body)) (Function.plainOf 𝓤 H A 10 ps r Pre· Post·)
+      Closed = (𝓤 : URA.URA M) (H : Wp.Heap 𝓤) (A : Atoms.Atoms 𝓤) (W : Kit.Given 𝓤 H A) (𝓣 : Wp.Tables 𝓤 H) (known0 : Plain.Known 𝓤 H A W 𝓣 4 ps·0 r·0 (claims· .0) (claims· .1) "links::list") (known1 : Plain.Known 𝓤 H A W 𝓣 11 ps·1 r·1 (claims· .2) (claims· .3) "messages::deliver") → Statement.Triple 𝓤 (Wp.WpFn 𝓤 H (𝓣 .C) (𝓣 .Λ) (Function.fnOf 12 ps r xs m hs body)) (Function.plainOf 𝓤 H A 12 ps r Pre· Post·)
 
     module _ where
-      abbrev at0 : Typed.TF T38 O0
+      abbrev at0 : Typed.TF T51 O0
       at0 = Typed.atRet O0
 
-      abbrev at1 : Typed.TF T37 O0
-      at1 = λ Ψ. Typed.pass T37 T38 s36 (at0 Ψ)
+      abbrev at1 : Typed.TF T50 O0
+      at1 = λ Ψ. Typed.pass T50 T51 s49 (at0 Ψ)
 
-      abbrev at2 : Typed.TF T36 O0
-      at2 = λ Ψ. Typed.pass T36 T37 s35 (at1 Ψ)
+      abbrev at2 : Typed.TF T49 O0
+      at2 = λ Ψ. Typed.pass T49 T50 s48 (at1 Ψ)
 
-      abbrev at3 : Typed.TF T34 O0
-      at3 = λ Ψ. Typed.pass T34 T36 s34 (at2 Ψ)
+      abbrev at3 : Typed.TF T47 O0
+      at3 = λ Ψ. Typed.pass T47 T49 s47 (at2 Ψ)
 
-      abbrev at4 : Typed.TF T34 O0
+      abbrev at4 : Typed.TF T47 O0
       at4 = λ Ψ. at3 Ψ
 
-      abbrev at5 : Typed.TF T33 O0
-      at5 = λ Ψ. Typed.give s32 (at4 Ψ)
+      abbrev at5 : Typed.TF T46 O0
+      at5 = λ Ψ. Typed.give s45 (at4 Ψ)
 
-      abbrev at6 : Typed.TF T30 O0
-      at6 = λ Ψ. Typed.both s31 (at5 Ψ)
+      abbrev at6 : Typed.TF T43 O0
+      at6 = λ Ψ. Typed.both s44 (at5 Ψ)
 
-      abbrev at7 : Typed.TF T30 O0
+      abbrev at7 : Typed.TF T43 O0
       at7 = λ Ψ. at6 Ψ
 
-      abbrev at8 : Typed.TF T30 O0
+      abbrev at8 : Typed.TF T43 O0
       at8 = λ Ψ. at7 Ψ
 
-      abbrev at9 : Typed.TF T29 O0
-      at9 = λ Ψ. Typed.give s28 (at8 Ψ)
+      abbrev at9 : Typed.TF T42 O0
+      at9 = λ Ψ. Typed.give s41 (at8 Ψ)
 
-      abbrev at10 : Typed.TF T26 O0
-      at10 = λ Ψ. Typed.both s27 (at9 Ψ)
+      abbrev at10 : Typed.TF T40 O0
+      at10 = λ Ψ. Typed.both s40 (at9 Ψ)
 
-      abbrev at11 : Typed.TF T26 O0
+      abbrev at11 : Typed.TF T40 O0
       at11 = λ Ψ. at10 Ψ
 
-      abbrev at12 : Typed.TF T26 O0
-      at12 = λ Ψ. at11 Ψ
+      abbrev at12 : Typed.TF T38 O0
+      at12 = λ Ψ. Typed.pass T38 T40 s38 (at11 Ψ)
 
-      abbrev at13 : Typed.TF T24 O0
-      at13 = λ Ψ. Typed.ask s24 (at12 Ψ)
+      abbrev at13 : Typed.TF T38 O0
+      at13 = λ Ψ. at12 Ψ
 
-      abbrev at14 : Typed.TF T24 O0
-      at14 = λ Ψ. at13 Ψ
+      abbrev at14 : Typed.TF T35 O0
+      at14 = λ Ψ. Typed.pass T35 T38 s36 (at13 Ψ)
 
-      abbrev at15 : Typed.TF T23 O0
-      at15 = λ Ψ. Typed.pass T23 T24 s22 (at14 Ψ)
+      abbrev at15 : Typed.TF T35 O0
+      at15 = λ Ψ. at14 Ψ
 
-      abbrev at16 : Typed.TF T22 O0
-      at16 = λ Ψ. Typed.pass T22 T23 s21 (at15 Ψ)
+      abbrev at16 : Typed.TF T35 O0
+      at16 = λ Ψ. at15 Ψ
 
-      abbrev at17 : Typed.TF T21 O0
-      at17 = λ Ψ. Typed.both s20 (at16 Ψ)
+      abbrev at17 : Typed.TF T33 O0
+      at17 = λ Ψ. Typed.ask s33 (at16 Ψ)
 
-      abbrev at18 : Typed.TF T20 O0
-      at18 = λ Ψ. Typed.ask s19 (at17 Ψ)
+      abbrev at18 : Typed.TF T33 O0
+      at18 = λ Ψ. at17 Ψ
 
-      abbrev at19 : Typed.TF T18 O0
-      at19 = λ Ψ. Typed.give s18 (at18 Ψ)
+      abbrev at19 : Typed.TF T32 O0
+      at19 = λ Ψ. Typed.pass T32 T33 s31 (at18 Ψ)
 
-      abbrev at20 : Typed.TF T18 O0
-      at20 = λ Ψ. at19 Ψ
+      abbrev at20 : Typed.TF T31 O0
+      at20 = λ Ψ. Typed.pass T31 T32 s30 (at19 Ψ)
 
-      abbrev at21 : Typed.TF T17 O0
-      at21 = λ Ψ. Typed.ask s16 (at20 Ψ)
+      abbrev at21 : Typed.TF T30 O0
+      at21 = λ Ψ. Typed.pass T30 T31 s29 (at20 Ψ)
 
-      abbrev at22 : Typed.TF T15 O0
-      at22 = λ Ψ. Typed.give s15 (at21 Ψ)
+      abbrev at22 : Typed.TF T29 O0
+      at22 = λ Ψ. Typed.both s28 (at21 Ψ)
 
-      abbrev at23 : Typed.TF T15 O0
-      at23 = λ Ψ. at22 Ψ
+      abbrev at23 : Typed.TF T28 O0
+      at23 = λ Ψ. Typed.ask s27 (at22 Ψ)
 
-      abbrev at24 : Typed.TF T13 O0
-      at24 = λ Ψ. Typed.give s13 (at23 Ψ)
+      abbrev at24 : Typed.TF T26 O0
+      at24 = λ Ψ. Typed.give s26 (at23 Ψ)
 
-      abbrev at25 : Typed.TF T13 O0
+      abbrev at25 : Typed.TF T26 O0
       at25 = λ Ψ. at24 Ψ
 
-      abbrev at26 : Typed.TF T12 O0
-      at26 = λ Ψ. Typed.pass T12 T13 s11 (at25 Ψ)
+      abbrev at26 : Typed.TF T25 O0
+      at26 = λ Ψ. Typed.ask s24 (at25 Ψ)
 
-      abbrev at27 : Typed.TF T11 O0
-      at27 = λ Ψ. Typed.pass T11 T12 s10 (at26 Ψ)
+      abbrev at27 : Typed.TF T23 O0
+      at27 = λ Ψ. Typed.give s23 (at26 Ψ)
 
-      abbrev at28 : Typed.TF T10 O0
-      at28 = λ Ψ. Typed.give s9 (at27 Ψ)
+      abbrev at28 : Typed.TF T23 O0
+      at28 = λ Ψ. at27 Ψ
 
-      abbrev at29 : Typed.TF T9 O0
-      at29 = λ Ψ. Typed.give s8 (at28 Ψ)
+      abbrev at29 : Typed.TF T22 O0
+      at29 = λ Ψ. Typed.ask s21 (at28 Ψ)
 
-      abbrev at30 : Typed.TF T8 O0
-      at30 = λ Ψ. Typed.give s7 (at29 Ψ)
+      abbrev at30 : Typed.TF T20 O0
+      at30 = λ Ψ. Typed.give s20 (at29 Ψ)
 
-      abbrev at31 : Typed.TF T7 O0
-      at31 = λ Ψ. Typed.give s6 (at30 Ψ)
+      abbrev at31 : Typed.TF T20 O0
+      at31 = λ Ψ. at30 Ψ
 
-      abbrev at32 : Typed.TF T6 O0
-      at32 = λ Ψ. Typed.give s5 (at31 Ψ)
+      abbrev at32 : Typed.TF T18 O0
+      at32 = λ Ψ. Typed.give s18 (at31 Ψ)
 
-      abbrev at33 : Typed.TF T5 O0
-      at33 = λ Ψ. Typed.give s4 (at32 Ψ)
+      abbrev at33 : Typed.TF T18 O0
+      at33 = λ Ψ. at32 Ψ
 
-      abbrev at34 : Typed.TF T4 O0
-      at34 = λ Ψ. Typed.give s3 (at33 Ψ)
+      abbrev at34 : Typed.TF T17 O0
+      at34 = λ Ψ. Typed.pass T17 T18 s16 (at33 Ψ)
 
-      abbrev at35 : Typed.TF T3 O0
-      at35 = λ Ψ. Typed.give s2 (at34 Ψ)
+      abbrev at35 : Typed.TF T16 O0
+      at35 = λ Ψ. Typed.pass T16 T17 s15 (at34 Ψ)
 
-      abbrev at36 : Typed.TF T2 O0
-      at36 = λ Ψ. Typed.give s1 (at35 Ψ)
+      abbrev at36 : Typed.TF T15 O0
+      at36 = λ Ψ. Typed.pass T15 T16 s14 (at35 Ψ)
 
-      abbrev at37 : Typed.TF T0 O0
-      at37 = λ Ψ. Typed.give s0 (at36 Ψ)
+      abbrev at37 : Typed.TF T14 O0
+      at37 = λ Ψ. Typed.pass T14 T15 s13 (at36 Ψ)
+
+      abbrev at38 : Typed.TF T13 O0
+      at38 = λ Ψ. Typed.both s12 (at37 Ψ)
+
+      abbrev at39 : Typed.TF T12 O0
+      at39 = λ Ψ. Typed.give s11 (at38 Ψ)
+
+      abbrev at40 : Typed.TF T11 O0
+      at40 = λ Ψ. Typed.give s10 (at39 Ψ)
+
+      abbrev at41 : Typed.TF T10 O0
+      at41 = λ Ψ. Typed.give s9 (at40 Ψ)
+
+      abbrev at42 : Typed.TF T9 O0
+      at42 = λ Ψ. Typed.give s8 (at41 Ψ)
+
+      abbrev at43 : Typed.TF T8 O0
+      at43 = λ Ψ. Typed.give s7 (at42 Ψ)
+
+      abbrev at44 : Typed.TF T7 O0
+      at44 = λ Ψ. Typed.give s6 (at43 Ψ)
+
+      abbrev at45 : Typed.TF T6 O0
+      at45 = λ Ψ. Typed.give s5 (at44 Ψ)
+
+      abbrev at46 : Typed.TF T5 O0
+      at46 = λ Ψ. Typed.give s4 (at45 Ψ)
+
+      abbrev at47 : Typed.TF T4 O0
+      at47 = λ Ψ. Typed.give s3 (at46 Ψ)
+
+      abbrev at48 : Typed.TF T3 O0
+      at48 = λ Ψ. Typed.give s2 (at47 Ψ)
+
+      abbrev at49 : Typed.TF T2 O0
+      at49 = λ Ψ. Typed.give s1 (at48 Ψ)
+
+      abbrev at50 : Typed.TF T0 O0
+      at50 = λ Ψ. Typed.give s0 (at49 Ψ)
 
       abbrev pub Φ : Typed.TF T0 O0
-      Φ = at37
+      Φ = at50
 
       module _ {M : Type 1} (𝓤 : URA.URA M) (H : Wp.Heap 𝓤) (A : Atoms.Atoms 𝓤) (W : Kit.Given 𝓤 H A) (𝓣 : Wp.Tables 𝓤 H) where
         abbrev Knowns : Type 1
-        Knowns = Plain.Known 𝓤 H A W 𝓣 11 ps·0 r·0 (claims· .0) (claims· .1) "messages::deliver"
+        Knowns = Plain.Known 𝓤 H A W 𝓣 4 ps·0 r·0 (claims· .0) (claims· .1) "links::list" × Plain.Known 𝓤 H A W 𝓣 11 ps·1 r·1 (claims· .2) (claims· .3) "messages::deliver"
 
-      module _ (κs : Lifetimes.Lfts 10) (qs : Lifetimes.Shares 10) where
-        abbrev g7 : List.List Row.Entry
-        g7 = List._∷_ e0 (List._∷_ e1 (List._∷_ e2 (List._∷_ e23 (List._∷_ e4 (List._∷_ e5 (List._∷_ e6 (List._∷_ e7 (List._∷_ e8 (List._∷_ e9 (List._∷_ e10 (List._∷_ e11 (List._∷_ (12, Relend.mslice-owed (Referent.rtF (Referent.fInt Syntax.w32)) y11 8 11 (Row.lease (κs .1 .1 .1 .1 .1 .1 .1 .1 .0) (qs .1 .1 .1 .1 .1 .1 .1 .1 .0))) (List._∷_ e13 (List._∷_ e25 (List._∷_ e15 List.[])))))))))))))))
+      module _ (κs : Lifetimes.Lfts 12) (qs : Lifetimes.Shares 12) where
+        abbrev g11 : List.List Row.Entry
+        g11 = List._∷_ e0 (List._∷_ e1 (List._∷_ e2 (List._∷_ e28 (List._∷_ e3 (List._∷_ e4 (List._∷_ e5 (List._∷_ e6 (List._∷_ e7 (List._∷_ e8 (List._∷_ e9 (List._∷_ e10 (List._∷_ e11 (List._∷_ e12 (List._∷_ (14, Relend.mslice-owed (Referent.rtF (Referent.fInt Syntax.w32)) y15 10 14 (Row.lease (κs .1 .1 .1 .1 .1 .1 .1 .1 .1 .1 .0) (qs .1 .1 .1 .1 .1 .1 .1 .1 .1 .1 .0))) (List._∷_ e14 List.[])))))))))))))))
 
-        abbrev g10 : List.List Row.Entry
-        g10 = List._∷_ e0 (List._∷_ e1 (List._∷_ e2 (List._∷_ e23 (List._∷_ e4 (List._∷_ e5 (List._∷_ e6 (List._∷_ e7 (List._∷_ e8 (List._∷_ e9 (List._∷_ e10 (List._∷_ e11 (List._∷_ (12, Relend.mslice-owed (Referent.rtF (Referent.fInt Syntax.w32)) y11 8 11 (Row.lease (κs .1 .1 .1 .1 .1 .1 .1 .1 .0) (qs .1 .1 .1 .1 .1 .1 .1 .1 .0))) (List._∷_ (13, Relend.mslice-owed (Referent.rtF (Referent.fInt Syntax.w32)) y12 9 12 (Row.lease (κs .1 .1 .1 .1 .1 .1 .1 .1 .1 .0) (qs .1 .1 .1 .1 .1 .1 .1 .1 .1 .0))) (List._∷_ e25 (List._∷_ e15 List.[])))))))))))))))
-
-        abbrev g13 : List.List Row.Entry
-        g13 = List._∷_ e0 (List._∷_ e1 (List._∷_ e2 (List._∷_ e23 (List._∷_ e4 (List._∷_ e5 (List._∷_ e6 (List._∷_ e7 (List._∷_ e8 (List._∷_ e9 (List._∷_ e10 (List._∷_ e11 (List._∷_ (12, Relend.mslice-owed (Referent.rtF (Referent.fInt Syntax.w32)) y11 8 11 (Row.lease (κs .1 .1 .1 .1 .1 .1 .1 .1 .0) (qs .1 .1 .1 .1 .1 .1 .1 .1 .0))) (List._∷_ (13, Relend.mslice-owed (Referent.rtF (Referent.fInt Syntax.w32)) y12 9 12 (Row.lease (κs .1 .1 .1 .1 .1 .1 .1 .1 .1 .0) (qs .1 .1 .1 .1 .1 .1 .1 .1 .1 .0))) (List._∷_ e25 (List._∷_ e30 List.[])))))))))))))))
-
-        abbrev g15 : List.List Row.Entry
-        g15 = List._∷_ e0 (List._∷_ e22 (List._∷_ e2 (List._∷_ e23 (List._∷_ e4 (List._∷_ e5 (List._∷_ e6 (List._∷_ e7 (List._∷_ e8 (List._∷_ e9 (List._∷_ e10 (List._∷_ e11 (List._∷_ (12, Relend.mslice-owed (Referent.rtF (Referent.fInt Syntax.w32)) y11 8 11 (Row.lease (κs .1 .1 .1 .1 .1 .1 .1 .1 .0) (qs .1 .1 .1 .1 .1 .1 .1 .1 .0))) (List._∷_ (13, Relend.mslice-owed (Referent.rtF (Referent.fInt Syntax.w32)) y12 9 12 (Row.lease (κs .1 .1 .1 .1 .1 .1 .1 .1 .1 .0) (qs .1 .1 .1 .1 .1 .1 .1 .1 .1 .0))) (List._∷_ e25 (List._∷_ e30 List.[])))))))))))))))
-
-        abbrev g16 : List.List Row.Entry
-        g16 = List._∷_ e0 (List._∷_ e22 (List._∷_ e2 (List._∷_ e23 (List._∷_ e4 (List._∷_ e5 (List._∷_ e6 (List._∷_ e7 (List._∷_ e8 (List._∷_ e9 (List._∷_ e10 (List._∷_ e11 (List._∷_ (12, Relend.mslice-owed (Referent.rtF (Referent.fInt Syntax.w32)) y11 8 11 (Row.lease (κs .1 .1 .1 .1 .1 .1 .1 .1 .0) (qs .1 .1 .1 .1 .1 .1 .1 .1 .0))) (List._∷_ (13, Relend.mslice-owed (Referent.rtF (Referent.fInt Syntax.w32)) y12 9 12 (Row.lease (κs .1 .1 .1 .1 .1 .1 .1 .1 .1 .0) (qs .1 .1 .1 .1 .1 .1 .1 .1 .1 .0))) (List._∷_ e25 (List._∷_ e15 List.[])))))))))))))))
-
-        abbrev g17 : List.List Row.Entry
-        g17 = List._∷_ e0 (List._∷_ e22 (List._∷_ e2 (List._∷_ e23 (List._∷_ e4 (List._∷_ e5 (List._∷_ e6 (List._∷_ e7 (List._∷_ e8 (List._∷_ e9 (List._∷_ e10 (List._∷_ e11 (List._∷_ (12, Relend.mslice-owed (Referent.rtF (Referent.fInt Syntax.w32)) y11 8 11 (Row.lease (κs .1 .1 .1 .1 .1 .1 .1 .1 .0) (qs .1 .1 .1 .1 .1 .1 .1 .1 .0))) (List._∷_ (13, Relend.mslice-owed (Referent.rtF (Referent.fInt Syntax.w32)) y12 9 12 (Row.lease (κs .1 .1 .1 .1 .1 .1 .1 .1 .1 .0) (qs .1 .1 .1 .1 .1 .1 .1 .1 .1 .0))) (List._∷_ e24 (List._∷_ e15 List.[])))))))))))))))
+        abbrev g14 : List.List Row.Entry
+        g14 = List._∷_ e0 (List._∷_ e1 (List._∷_ e2 (List._∷_ e28 (List._∷_ e3 (List._∷_ e4 (List._∷_ e5 (List._∷_ e6 (List._∷_ e7 (List._∷_ e8 (List._∷_ e9 (List._∷_ e10 (List._∷_ e11 (List._∷_ e12 (List._∷_ (14, Relend.mslice-owed (Referent.rtF (Referent.fInt Syntax.w32)) y15 10 14 (Row.lease (κs .1 .1 .1 .1 .1 .1 .1 .1 .1 .1 .0) (qs .1 .1 .1 .1 .1 .1 .1 .1 .1 .1 .0))) (List._∷_ (15, Relend.mslice-owed (Referent.rtF (Referent.fInt Syntax.w32)) y16 11 15 (Row.lease (κs .1 .1 .1 .1 .1 .1 .1 .1 .1 .1 .1 .0) (qs .1 .1 .1 .1 .1 .1 .1 .1 .1 .1 .1 .0))) List.[])))))))))))))))
 
         abbrev g19 : List.List Row.Entry
-        g19 = List._∷_ e0 (List._∷_ e22 (List._∷_ e2 (List._∷_ e23 (List._∷_ e4 (List._∷_ e5 (List._∷_ e6 (List._∷_ e7 (List._∷_ e8 (List._∷_ e9 (List._∷_ e10 (List._∷_ e11 (List._∷_ e12 (List._∷_ (13, Relend.mslice-owed (Referent.rtF (Referent.fInt Syntax.w32)) y12 9 12 (Row.lease (κs .1 .1 .1 .1 .1 .1 .1 .1 .1 .0) (qs .1 .1 .1 .1 .1 .1 .1 .1 .1 .0))) (List._∷_ e24 (List._∷_ e15 List.[])))))))))))))))
+        g19 = List._∷_ e0 (List._∷_ e27 (List._∷_ e2 (List._∷_ e28 (List._∷_ e3 (List._∷_ e4 (List._∷_ e5 (List._∷_ e6 (List._∷_ e7 (List._∷_ e8 (List._∷_ e9 (List._∷_ e10 (List._∷_ e11 (List._∷_ e12 (List._∷_ (14, Relend.mslice-owed (Referent.rtF (Referent.fInt Syntax.w32)) y15 10 14 (Row.lease (κs .1 .1 .1 .1 .1 .1 .1 .1 .1 .1 .0) (qs .1 .1 .1 .1 .1 .1 .1 .1 .1 .1 .0))) (List._∷_ (15, Relend.mslice-owed (Referent.rtF (Referent.fInt Syntax.w32)) y16 11 15 (Row.lease (κs .1 .1 .1 .1 .1 .1 .1 .1 .1 .1 .1 .0) (qs .1 .1 .1 .1 .1 .1 .1 .1 .1 .1 .1 .0))) List.[])))))))))))))))
+
+        abbrev g24 : List.List Row.Entry
+        g24 = List._∷_ e0 (List._∷_ e27 (List._∷_ e2 (List._∷_ e28 (List._∷_ e3 (List._∷_ e4 (List._∷_ e5 (List._∷_ e6 (List._∷_ e7 (List._∷_ e8 (List._∷_ e9 (List._∷_ e10 (List._∷_ e11 (List._∷_ e12 (List._∷_ e13 (List._∷_ (15, Relend.mslice-owed (Referent.rtF (Referent.fInt Syntax.w32)) y16 11 15 (Row.lease (κs .1 .1 .1 .1 .1 .1 .1 .1 .1 .1 .1 .0) (qs .1 .1 .1 .1 .1 .1 .1 .1 .1 .1 .1 .0))) List.[])))))))))))))))
 
         abbrev l0 : List.List Row.Life
-        l0 = List._∷_ (Row.lease (κs .0) (qs .0)) (List._∷_ (Row.lease (κs .1 .0) (qs .1 .0)) (List._∷_ (Row.lease (κs .1 .1 .0) (qs .1 .1 .0)) (List._∷_ (Row.lease (κs .1 .1 .1 .0) (qs .1 .1 .1 .0)) (List._∷_ (Row.lease (κs .1 .1 .1 .1 .0) (qs .1 .1 .1 .1 .0)) (List._∷_ (Row.lease (κs .1 .1 .1 .1 .1 .0) (qs .1 .1 .1 .1 .1 .0)) (List._∷_ (Row.lease (κs .1 .1 .1 .1 .1 .1 .0) (qs .1 .1 .1 .1 .1 .1 .0)) (List._∷_ (Row.lease (κs .1 .1 .1 .1 .1 .1 .1 .0) (qs .1 .1 .1 .1 .1 .1 .1 .0)) (List._∷_ (Row.lease (κs .1 .1 .1 .1 .1 .1 .1 .1 .0) (qs .1 .1 .1 .1 .1 .1 .1 .1 .0)) (List._∷_ (Row.lease (κs .1 .1 .1 .1 .1 .1 .1 .1 .1 .0) (qs .1 .1 .1 .1 .1 .1 .1 .1 .1 .0)) (List._∷_ Row.off (List._∷_ Row.off (List._∷_ Row.off List.[]))))))))))))
+        l0 = List._∷_ (Row.lease (κs .0) (qs .0)) (List._∷_ (Row.lease (κs .1 .0) (qs .1 .0)) (List._∷_ (Row.lease (κs .1 .1 .0) (qs .1 .1 .0)) (List._∷_ (Row.lease (κs .1 .1 .1 .0) (qs .1 .1 .1 .0)) (List._∷_ (Row.lease (κs .1 .1 .1 .1 .0) (qs .1 .1 .1 .1 .0)) (List._∷_ (Row.lease (κs .1 .1 .1 .1 .1 .0) (qs .1 .1 .1 .1 .1 .0)) (List._∷_ (Row.lease (κs .1 .1 .1 .1 .1 .1 .0) (qs .1 .1 .1 .1 .1 .1 .0)) (List._∷_ (Row.lease (κs .1 .1 .1 .1 .1 .1 .1 .0) (qs .1 .1 .1 .1 .1 .1 .1 .0)) (List._∷_ (Row.lease (κs .1 .1 .1 .1 .1 .1 .1 .1 .0) (qs .1 .1 .1 .1 .1 .1 .1 .1 .0)) (List._∷_ (Row.lease (κs .1 .1 .1 .1 .1 .1 .1 .1 .1 .0) (qs .1 .1 .1 .1 .1 .1 .1 .1 .1 .0)) (List._∷_ (Row.lease (κs .1 .1 .1 .1 .1 .1 .1 .1 .1 .1 .0) (qs .1 .1 .1 .1 .1 .1 .1 .1 .1 .1 .0)) (List._∷_ (Row.lease (κs .1 .1 .1 .1 .1 .1 .1 .1 .1 .1 .1 .0) (qs .1 .1 .1 .1 .1 .1 .1 .1 .1 .1 .1 .0)) (List._∷_ Row.off (List._∷_ Row.off (List._∷_ Row.off (List._∷_ Row.off List.[])))))))))))))))
 
         abbrev l1 : List.List Row.Life
-        l1 = List._∷_ (Row.lease (κs .0) (qs .0)) (List._∷_ (Row.lease (κs .1 .0) (qs .1 .0)) (List._∷_ (Row.lease (κs .1 .1 .0) (qs .1 .1 .0)) (List._∷_ (Row.lease (κs .1 .1 .1 .0) (qs .1 .1 .1 .0)) (List._∷_ (Row.lease (κs .1 .1 .1 .1 .0) (qs .1 .1 .1 .1 .0)) (List._∷_ (Row.lease (κs .1 .1 .1 .1 .1 .0) (qs .1 .1 .1 .1 .1 .0)) (List._∷_ (Row.lease (κs .1 .1 .1 .1 .1 .1 .0) (qs .1 .1 .1 .1 .1 .1 .0)) (List._∷_ (Row.lease (κs .1 .1 .1 .1 .1 .1 .1 .0) (qs .1 .1 .1 .1 .1 .1 .1 .0)) (List._∷_ (Row.lease (κs .1 .1 .1 .1 .1 .1 .1 .1 .0) (qs .1 .1 .1 .1 .1 .1 .1 .1 .0)) (List._∷_ (Row.lease (κs .1 .1 .1 .1 .1 .1 .1 .1 .1 .0) (qs .1 .1 .1 .1 .1 .1 .1 .1 .1 .0)) (List._∷_ Row.alive (List._∷_ Row.off (List._∷_ Row.off List.[]))))))))))))
+        l1 = List._∷_ (Row.lease (κs .0) (qs .0)) (List._∷_ (Row.lease (κs .1 .0) (qs .1 .0)) (List._∷_ (Row.lease (κs .1 .1 .0) (qs .1 .1 .0)) (List._∷_ (Row.lease (κs .1 .1 .1 .0) (qs .1 .1 .1 .0)) (List._∷_ (Row.lease (κs .1 .1 .1 .1 .0) (qs .1 .1 .1 .1 .0)) (List._∷_ (Row.lease (κs .1 .1 .1 .1 .1 .0) (qs .1 .1 .1 .1 .1 .0)) (List._∷_ (Row.lease (κs .1 .1 .1 .1 .1 .1 .0) (qs .1 .1 .1 .1 .1 .1 .0)) (List._∷_ (Row.lease (κs .1 .1 .1 .1 .1 .1 .1 .0) (qs .1 .1 .1 .1 .1 .1 .1 .0)) (List._∷_ (Row.lease (κs .1 .1 .1 .1 .1 .1 .1 .1 .0) (qs .1 .1 .1 .1 .1 .1 .1 .1 .0)) (List._∷_ (Row.lease (κs .1 .1 .1 .1 .1 .1 .1 .1 .1 .0) (qs .1 .1 .1 .1 .1 .1 .1 .1 .1 .0)) (List._∷_ (Row.lease (κs .1 .1 .1 .1 .1 .1 .1 .1 .1 .1 .0) (qs .1 .1 .1 .1 .1 .1 .1 .1 .1 .1 .0)) (List._∷_ (Row.lease (κs .1 .1 .1 .1 .1 .1 .1 .1 .1 .1 .1 .0) (qs .1 .1 .1 .1 .1 .1 .1 .1 .1 .1 .1 .0)) (List._∷_ Row.alive (List._∷_ Row.off (List._∷_ Row.off (List._∷_ Row.off List.[])))))))))))))))
 
         abbrev l2 : List.List Row.Life
-        l2 = List._∷_ (Row.lease (κs .0) (qs .0)) (List._∷_ (Row.lease (κs .1 .0) (qs .1 .0)) (List._∷_ (Row.lease (κs .1 .1 .0) (qs .1 .1 .0)) (List._∷_ (Row.lease (κs .1 .1 .1 .0) (qs .1 .1 .1 .0)) (List._∷_ (Row.lease (κs .1 .1 .1 .1 .0) (qs .1 .1 .1 .1 .0)) (List._∷_ (Row.lease (κs .1 .1 .1 .1 .1 .0) (qs .1 .1 .1 .1 .1 .0)) (List._∷_ (Row.lease (κs .1 .1 .1 .1 .1 .1 .0) (qs .1 .1 .1 .1 .1 .1 .0)) (List._∷_ (Row.lease (κs .1 .1 .1 .1 .1 .1 .1 .0) (qs .1 .1 .1 .1 .1 .1 .1 .0)) (List._∷_ Row.off (List._∷_ (Row.lease (κs .1 .1 .1 .1 .1 .1 .1 .1 .1 .0) (qs .1 .1 .1 .1 .1 .1 .1 .1 .1 .0)) (List._∷_ Row.alive (List._∷_ Row.alive (List._∷_ Row.off List.[]))))))))))))
+        l2 = List._∷_ (Row.lease (κs .0) (qs .0)) (List._∷_ (Row.lease (κs .1 .0) (qs .1 .0)) (List._∷_ (Row.lease (κs .1 .1 .0) (qs .1 .1 .0)) (List._∷_ (Row.lease (κs .1 .1 .1 .0) (qs .1 .1 .1 .0)) (List._∷_ (Row.lease (κs .1 .1 .1 .1 .0) (qs .1 .1 .1 .1 .0)) (List._∷_ (Row.lease (κs .1 .1 .1 .1 .1 .0) (qs .1 .1 .1 .1 .1 .0)) (List._∷_ (Row.lease (κs .1 .1 .1 .1 .1 .1 .0) (qs .1 .1 .1 .1 .1 .1 .0)) (List._∷_ (Row.lease (κs .1 .1 .1 .1 .1 .1 .1 .0) (qs .1 .1 .1 .1 .1 .1 .1 .0)) (List._∷_ (Row.lease (κs .1 .1 .1 .1 .1 .1 .1 .1 .0) (qs .1 .1 .1 .1 .1 .1 .1 .1 .0)) (List._∷_ (Row.lease (κs .1 .1 .1 .1 .1 .1 .1 .1 .1 .0) (qs .1 .1 .1 .1 .1 .1 .1 .1 .1 .0)) (List._∷_ (Row.lease (κs .1 .1 .1 .1 .1 .1 .1 .1 .1 .1 .0) (qs .1 .1 .1 .1 .1 .1 .1 .1 .1 .1 .0)) (List._∷_ (Row.lease (κs .1 .1 .1 .1 .1 .1 .1 .1 .1 .1 .1 .0) (qs .1 .1 .1 .1 .1 .1 .1 .1 .1 .1 .1 .0)) (List._∷_ Row.alive (List._∷_ Row.alive (List._∷_ Row.off (List._∷_ Row.off List.[])))))))))))))))
 
         abbrev l3 : List.List Row.Life
-        l3 = List._∷_ (Row.lease (κs .0) (qs .0)) (List._∷_ (Row.lease (κs .1 .0) (qs .1 .0)) (List._∷_ (Row.lease (κs .1 .1 .0) (qs .1 .1 .0)) (List._∷_ (Row.lease (κs .1 .1 .1 .0) (qs .1 .1 .1 .0)) (List._∷_ (Row.lease (κs .1 .1 .1 .1 .0) (qs .1 .1 .1 .1 .0)) (List._∷_ (Row.lease (κs .1 .1 .1 .1 .1 .0) (qs .1 .1 .1 .1 .1 .0)) (List._∷_ (Row.lease (κs .1 .1 .1 .1 .1 .1 .0) (qs .1 .1 .1 .1 .1 .1 .0)) (List._∷_ (Row.lease (κs .1 .1 .1 .1 .1 .1 .1 .0) (qs .1 .1 .1 .1 .1 .1 .1 .0)) (List._∷_ Row.off (List._∷_ Row.off (List._∷_ Row.alive (List._∷_ Row.alive (List._∷_ Row.alive List.[]))))))))))))
+        l3 = List._∷_ (Row.lease (κs .0) (qs .0)) (List._∷_ (Row.lease (κs .1 .0) (qs .1 .0)) (List._∷_ (Row.lease (κs .1 .1 .0) (qs .1 .1 .0)) (List._∷_ (Row.lease (κs .1 .1 .1 .0) (qs .1 .1 .1 .0)) (List._∷_ (Row.lease (κs .1 .1 .1 .1 .0) (qs .1 .1 .1 .1 .0)) (List._∷_ (Row.lease (κs .1 .1 .1 .1 .1 .0) (qs .1 .1 .1 .1 .1 .0)) (List._∷_ (Row.lease (κs .1 .1 .1 .1 .1 .1 .0) (qs .1 .1 .1 .1 .1 .1 .0)) (List._∷_ (Row.lease (κs .1 .1 .1 .1 .1 .1 .1 .0) (qs .1 .1 .1 .1 .1 .1 .1 .0)) (List._∷_ (Row.lease (κs .1 .1 .1 .1 .1 .1 .1 .1 .0) (qs .1 .1 .1 .1 .1 .1 .1 .1 .0)) (List._∷_ (Row.lease (κs .1 .1 .1 .1 .1 .1 .1 .1 .1 .0) (qs .1 .1 .1 .1 .1 .1 .1 .1 .1 .0)) (List._∷_ Row.off (List._∷_ (Row.lease (κs .1 .1 .1 .1 .1 .1 .1 .1 .1 .1 .1 .0) (qs .1 .1 .1 .1 .1 .1 .1 .1 .1 .1 .1 .0)) (List._∷_ Row.alive (List._∷_ Row.alive (List._∷_ Row.alive (List._∷_ Row.off List.[])))))))))))))))
 
         abbrev l4 : List.List Row.Life
-        l4 = List._∷_ (Row.lease (κs .0) (qs .0)) (List._∷_ (Row.lease (κs .1 .0) (qs .1 .0)) (List._∷_ (Row.lease (κs .1 .1 .0) (qs .1 .1 .0)) (List._∷_ (Row.lease (κs .1 .1 .1 .0) (qs .1 .1 .1 .0)) (List._∷_ (Row.lease (κs .1 .1 .1 .1 .0) (qs .1 .1 .1 .1 .0)) (List._∷_ (Row.lease (κs .1 .1 .1 .1 .1 .0) (qs .1 .1 .1 .1 .1 .0)) (List._∷_ (Row.lease (κs .1 .1 .1 .1 .1 .1 .0) (qs .1 .1 .1 .1 .1 .1 .0)) (List._∷_ (Row.lease (κs .1 .1 .1 .1 .1 .1 .1 .0) (qs .1 .1 .1 .1 .1 .1 .1 .0)) (List._∷_ Row.off (List._∷_ Row.off (List._∷_ Row.dead (List._∷_ Row.alive (List._∷_ Row.alive List.[]))))))))))))
+        l4 = List._∷_ (Row.lease (κs .0) (qs .0)) (List._∷_ (Row.lease (κs .1 .0) (qs .1 .0)) (List._∷_ (Row.lease (κs .1 .1 .0) (qs .1 .1 .0)) (List._∷_ (Row.lease (κs .1 .1 .1 .0) (qs .1 .1 .1 .0)) (List._∷_ (Row.lease (κs .1 .1 .1 .1 .0) (qs .1 .1 .1 .1 .0)) (List._∷_ (Row.lease (κs .1 .1 .1 .1 .1 .0) (qs .1 .1 .1 .1 .1 .0)) (List._∷_ (Row.lease (κs .1 .1 .1 .1 .1 .1 .0) (qs .1 .1 .1 .1 .1 .1 .0)) (List._∷_ (Row.lease (κs .1 .1 .1 .1 .1 .1 .1 .0) (qs .1 .1 .1 .1 .1 .1 .1 .0)) (List._∷_ (Row.lease (κs .1 .1 .1 .1 .1 .1 .1 .1 .0) (qs .1 .1 .1 .1 .1 .1 .1 .1 .0)) (List._∷_ (Row.lease (κs .1 .1 .1 .1 .1 .1 .1 .1 .1 .0) (qs .1 .1 .1 .1 .1 .1 .1 .1 .1 .0)) (List._∷_ Row.off (List._∷_ Row.off (List._∷_ Row.alive (List._∷_ Row.alive (List._∷_ Row.alive (List._∷_ Row.alive List.[])))))))))))))))
 
         abbrev l5 : List.List Row.Life
-        l5 = List._∷_ (Row.lease (κs .0) (qs .0)) (List._∷_ (Row.lease (κs .1 .0) (qs .1 .0)) (List._∷_ (Row.lease (κs .1 .1 .0) (qs .1 .1 .0)) (List._∷_ (Row.lease (κs .1 .1 .1 .0) (qs .1 .1 .1 .0)) (List._∷_ (Row.lease (κs .1 .1 .1 .1 .0) (qs .1 .1 .1 .1 .0)) (List._∷_ (Row.lease (κs .1 .1 .1 .1 .1 .0) (qs .1 .1 .1 .1 .1 .0)) (List._∷_ (Row.lease (κs .1 .1 .1 .1 .1 .1 .0) (qs .1 .1 .1 .1 .1 .1 .0)) (List._∷_ (Row.lease (κs .1 .1 .1 .1 .1 .1 .1 .0) (qs .1 .1 .1 .1 .1 .1 .1 .0)) (List._∷_ (Row.lease (κs .1 .1 .1 .1 .1 .1 .1 .1 .0) (qs .1 .1 .1 .1 .1 .1 .1 .1 .0)) (List._∷_ Row.off (List._∷_ Row.off (List._∷_ Row.dead (List._∷_ Row.alive List.[]))))))))))))
+        l5 = List._∷_ (Row.lease (κs .0) (qs .0)) (List._∷_ (Row.lease (κs .1 .0) (qs .1 .0)) (List._∷_ (Row.lease (κs .1 .1 .0) (qs .1 .1 .0)) (List._∷_ (Row.lease (κs .1 .1 .1 .0) (qs .1 .1 .1 .0)) (List._∷_ (Row.lease (κs .1 .1 .1 .1 .0) (qs .1 .1 .1 .1 .0)) (List._∷_ (Row.lease (κs .1 .1 .1 .1 .1 .0) (qs .1 .1 .1 .1 .1 .0)) (List._∷_ (Row.lease (κs .1 .1 .1 .1 .1 .1 .0) (qs .1 .1 .1 .1 .1 .1 .0)) (List._∷_ (Row.lease (κs .1 .1 .1 .1 .1 .1 .1 .0) (qs .1 .1 .1 .1 .1 .1 .1 .0)) (List._∷_ (Row.lease (κs .1 .1 .1 .1 .1 .1 .1 .1 .0) (qs .1 .1 .1 .1 .1 .1 .1 .1 .0)) (List._∷_ (Row.lease (κs .1 .1 .1 .1 .1 .1 .1 .1 .1 .0) (qs .1 .1 .1 .1 .1 .1 .1 .1 .1 .0)) (List._∷_ Row.off (List._∷_ Row.off (List._∷_ Row.dead (List._∷_ Row.alive (List._∷_ Row.alive (List._∷_ Row.alive List.[])))))))))))))))
 
         abbrev l6 : List.List Row.Life
-        l6 = List._∷_ (Row.lease (κs .0) (qs .0)) (List._∷_ (Row.lease (κs .1 .0) (qs .1 .0)) (List._∷_ (Row.lease (κs .1 .1 .0) (qs .1 .1 .0)) (List._∷_ (Row.lease (κs .1 .1 .1 .0) (qs .1 .1 .1 .0)) (List._∷_ (Row.lease (κs .1 .1 .1 .1 .0) (qs .1 .1 .1 .1 .0)) (List._∷_ (Row.lease (κs .1 .1 .1 .1 .1 .0) (qs .1 .1 .1 .1 .1 .0)) (List._∷_ (Row.lease (κs .1 .1 .1 .1 .1 .1 .0) (qs .1 .1 .1 .1 .1 .1 .0)) (List._∷_ (Row.lease (κs .1 .1 .1 .1 .1 .1 .1 .0) (qs .1 .1 .1 .1 .1 .1 .1 .0)) (List._∷_ (Row.lease (κs .1 .1 .1 .1 .1 .1 .1 .1 .0) (qs .1 .1 .1 .1 .1 .1 .1 .1 .0)) (List._∷_ (Row.lease (κs .1 .1 .1 .1 .1 .1 .1 .1 .1 .0) (qs .1 .1 .1 .1 .1 .1 .1 .1 .1 .0)) (List._∷_ Row.off (List._∷_ Row.off (List._∷_ Row.dead List.[]))))))))))))
+        l6 = List._∷_ (Row.lease (κs .0) (qs .0)) (List._∷_ (Row.lease (κs .1 .0) (qs .1 .0)) (List._∷_ (Row.lease (κs .1 .1 .0) (qs .1 .1 .0)) (List._∷_ (Row.lease (κs .1 .1 .1 .0) (qs .1 .1 .1 .0)) (List._∷_ (Row.lease (κs .1 .1 .1 .1 .0) (qs .1 .1 .1 .1 .0)) (List._∷_ (Row.lease (κs .1 .1 .1 .1 .1 .0) (qs .1 .1 .1 .1 .1 .0)) (List._∷_ (Row.lease (κs .1 .1 .1 .1 .1 .1 .0) (qs .1 .1 .1 .1 .1 .1 .0)) (List._∷_ (Row.lease (κs .1 .1 .1 .1 .1 .1 .1 .0) (qs .1 .1 .1 .1 .1 .1 .1 .0)) (List._∷_ (Row.lease (κs .1 .1 .1 .1 .1 .1 .1 .1 .0) (qs .1 .1 .1 .1 .1 .1 .1 .1 .0)) (List._∷_ (Row.lease (κs .1 .1 .1 .1 .1 .1 .1 .1 .1 .0) (qs .1 .1 .1 .1 .1 .1 .1 .1 .1 .0)) (List._∷_ Row.off (List._∷_ Row.off (List._∷_ Row.off (List._∷_ Row.dead (List._∷_ Row.alive (List._∷_ Row.alive List.[])))))))))))))))
+
+        abbrev l7 : List.List Row.Life
+        l7 = List._∷_ (Row.lease (κs .0) (qs .0)) (List._∷_ (Row.lease (κs .1 .0) (qs .1 .0)) (List._∷_ (Row.lease (κs .1 .1 .0) (qs .1 .1 .0)) (List._∷_ (Row.lease (κs .1 .1 .1 .0) (qs .1 .1 .1 .0)) (List._∷_ (Row.lease (κs .1 .1 .1 .1 .0) (qs .1 .1 .1 .1 .0)) (List._∷_ (Row.lease (κs .1 .1 .1 .1 .1 .0) (qs .1 .1 .1 .1 .1 .0)) (List._∷_ (Row.lease (κs .1 .1 .1 .1 .1 .1 .0) (qs .1 .1 .1 .1 .1 .1 .0)) (List._∷_ (Row.lease (κs .1 .1 .1 .1 .1 .1 .1 .0) (qs .1 .1 .1 .1 .1 .1 .1 .0)) (List._∷_ (Row.lease (κs .1 .1 .1 .1 .1 .1 .1 .1 .0) (qs .1 .1 .1 .1 .1 .1 .1 .1 .0)) (List._∷_ (Row.lease (κs .1 .1 .1 .1 .1 .1 .1 .1 .1 .0) (qs .1 .1 .1 .1 .1 .1 .1 .1 .1 .0)) (List._∷_ Row.off (List._∷_ Row.off (List._∷_ Row.off (List._∷_ Row.off (List._∷_ Row.alive (List._∷_ Row.alive List.[])))))))))))))))
+
+        abbrev l8 : List.List Row.Life
+        l8 = List._∷_ (Row.lease (κs .0) (qs .0)) (List._∷_ (Row.lease (κs .1 .0) (qs .1 .0)) (List._∷_ (Row.lease (κs .1 .1 .0) (qs .1 .1 .0)) (List._∷_ (Row.lease (κs .1 .1 .1 .0) (qs .1 .1 .1 .0)) (List._∷_ (Row.lease (κs .1 .1 .1 .1 .0) (qs .1 .1 .1 .1 .0)) (List._∷_ (Row.lease (κs .1 .1 .1 .1 .1 .0) (qs .1 .1 .1 .1 .1 .0)) (List._∷_ (Row.lease (κs .1 .1 .1 .1 .1 .1 .0) (qs .1 .1 .1 .1 .1 .1 .0)) (List._∷_ (Row.lease (κs .1 .1 .1 .1 .1 .1 .1 .0) (qs .1 .1 .1 .1 .1 .1 .1 .0)) (List._∷_ (Row.lease (κs .1 .1 .1 .1 .1 .1 .1 .1 .0) (qs .1 .1 .1 .1 .1 .1 .1 .1 .0)) (List._∷_ (Row.lease (κs .1 .1 .1 .1 .1 .1 .1 .1 .1 .0) (qs .1 .1 .1 .1 .1 .1 .1 .1 .1 .0)) (List._∷_ (Row.lease (κs .1 .1 .1 .1 .1 .1 .1 .1 .1 .1 .0) (qs .1 .1 .1 .1 .1 .1 .1 .1 .1 .1 .0)) (List._∷_ Row.off (List._∷_ Row.off (List._∷_ Row.off (List._∷_ Row.dead (List._∷_ Row.alive List.[])))))))))))))))
+
+        abbrev l9 : List.List Row.Life
+        l9 = List._∷_ (Row.lease (κs .0) (qs .0)) (List._∷_ (Row.lease (κs .1 .0) (qs .1 .0)) (List._∷_ (Row.lease (κs .1 .1 .0) (qs .1 .1 .0)) (List._∷_ (Row.lease (κs .1 .1 .1 .0) (qs .1 .1 .1 .0)) (List._∷_ (Row.lease (κs .1 .1 .1 .1 .0) (qs .1 .1 .1 .1 .0)) (List._∷_ (Row.lease (κs .1 .1 .1 .1 .1 .0) (qs .1 .1 .1 .1 .1 .0)) (List._∷_ (Row.lease (κs .1 .1 .1 .1 .1 .1 .0) (qs .1 .1 .1 .1 .1 .1 .0)) (List._∷_ (Row.lease (κs .1 .1 .1 .1 .1 .1 .1 .0) (qs .1 .1 .1 .1 .1 .1 .1 .0)) (List._∷_ (Row.lease (κs .1 .1 .1 .1 .1 .1 .1 .1 .0) (qs .1 .1 .1 .1 .1 .1 .1 .1 .0)) (List._∷_ (Row.lease (κs .1 .1 .1 .1 .1 .1 .1 .1 .1 .0) (qs .1 .1 .1 .1 .1 .1 .1 .1 .1 .0)) (List._∷_ (Row.lease (κs .1 .1 .1 .1 .1 .1 .1 .1 .1 .1 .0) (qs .1 .1 .1 .1 .1 .1 .1 .1 .1 .1 .0)) (List._∷_ (Row.lease (κs .1 .1 .1 .1 .1 .1 .1 .1 .1 .1 .1 .0) (qs .1 .1 .1 .1 .1 .1 .1 .1 .1 .1 .1 .0)) (List._∷_ Row.off (List._∷_ Row.off (List._∷_ Row.off (List._∷_ Row.dead List.[])))))))))))))))
 
         abbrev G0 : Row.Cx
         G0 = record { locals = List._++_ t0 t1; slots = l0 }
@@ -725,241 +922,321 @@ module _ (claims· : Claims) where
         G11 = record { locals = List._++_ t0 t1; slots = l0 }
 
         abbrev G12 : Row.Cx
-        G12 = record { locals = List._++_ t3 t1; slots = l0 }
+        G12 = record { locals = List._++_ t0 t1; slots = l0 }
 
         abbrev G13 : Row.Cx
-        G13 = record { locals = List._++_ t4 t1; slots = l0 }
+        G13 = record { locals = List._++_ t0 t1; slots = l0 }
 
         abbrev G14 : Row.Cx
-        G14 = record { locals = List._++_ t4 t1; slots = l1 }
+        G14 = record { locals = List._++_ t0 t3; slots = l0 }
 
         abbrev G15 : Row.Cx
-        G15 = record { locals = List._++_ t5 t6; slots = l1 }
+        G15 = record { locals = List._++_ t0 t4; slots = l0 }
 
         abbrev G16 : Row.Cx
-        G16 = record { locals = List._++_ t5 t6; slots = List._∷_ (Row.lease (κs .0) (qs .0)) (List._∷_ (Row.lease (κs .1 .0) (qs .1 .0)) (List._∷_ (Row.lease (κs .1 .1 .0) (qs .1 .1 .0)) (List._∷_ (Row.lease (κs .1 .1 .1 .0) (qs .1 .1 .1 .0)) (List._∷_ (Row.lease (κs .1 .1 .1 .1 .0) (qs .1 .1 .1 .1 .0)) (List._∷_ (Row.lease (κs .1 .1 .1 .1 .1 .0) (qs .1 .1 .1 .1 .1 .0)) (List._∷_ (Row.lease (κs .1 .1 .1 .1 .1 .1 .0) (qs .1 .1 .1 .1 .1 .1 .0)) (List._∷_ (Row.lease (κs .1 .1 .1 .1 .1 .1 .1 .0) (qs .1 .1 .1 .1 .1 .1 .1 .0)) (List._∷_ (Row.lease (κs .1 .1 .1 .1 .1 .1 .1 .1 .0) (qs .1 .1 .1 .1 .1 .1 .1 .1 .0)) (List._∷_ (Row.lease (κs .1 .1 .1 .1 .1 .1 .1 .1 .1 .0) (qs .1 .1 .1 .1 .1 .1 .1 .1 .1 .0)) (List._∷_ Row.alive (List._∷_ Row.alive (List._∷_ Row.off List.[])))))))))))) }
+        G16 = record { locals = List._++_ t0 t5; slots = l0 }
 
         abbrev G17 : Row.Cx
-        G17 = record { locals = List._++_ g7 t8; slots = l2 }
+        G17 = record { locals = List._++_ t0 t6; slots = l0 }
 
         abbrev G18 : Row.Cx
-        G18 = record { locals = List._++_ g7 t9; slots = l2 }
+        G18 = record { locals = List._++_ t7 t6; slots = l0 }
 
         abbrev G19 : Row.Cx
-        G19 = record { locals = List._++_ g7 t9; slots = List._∷_ (Row.lease (κs .0) (qs .0)) (List._∷_ (Row.lease (κs .1 .0) (qs .1 .0)) (List._∷_ (Row.lease (κs .1 .1 .0) (qs .1 .1 .0)) (List._∷_ (Row.lease (κs .1 .1 .1 .0) (qs .1 .1 .1 .0)) (List._∷_ (Row.lease (κs .1 .1 .1 .1 .0) (qs .1 .1 .1 .1 .0)) (List._∷_ (Row.lease (κs .1 .1 .1 .1 .1 .0) (qs .1 .1 .1 .1 .1 .0)) (List._∷_ (Row.lease (κs .1 .1 .1 .1 .1 .1 .0) (qs .1 .1 .1 .1 .1 .1 .0)) (List._∷_ (Row.lease (κs .1 .1 .1 .1 .1 .1 .1 .0) (qs .1 .1 .1 .1 .1 .1 .1 .0)) (List._∷_ Row.off (List._∷_ (Row.lease (κs .1 .1 .1 .1 .1 .1 .1 .1 .1 .0) (qs .1 .1 .1 .1 .1 .1 .1 .1 .1 .0)) (List._∷_ Row.alive (List._∷_ Row.alive (List._∷_ Row.alive List.[])))))))))))) }
+        G19 = record { locals = List._++_ t7 t6; slots = l1 }
 
         abbrev G20 : Row.Cx
-        G20 = record { locals = List._++_ g10 t11; slots = l3 }
+        G20 = record { locals = List._++_ t7 t8; slots = l1 }
 
         abbrev G21 : Row.Cx
-        G21 = record { locals = List._++_ g10 t12; slots = l3 }
+        G21 = record { locals = List._++_ t7 t8; slots = l2 }
 
         abbrev G22 : Row.Cx
-        G22 = record { locals = List._++_ g13 t14; slots = l3 }
+        G22 = record { locals = List._++_ t7 t9; slots = l2 }
 
         abbrev G23 : Row.Cx
-        G23 = record { locals = List._++_ g15 t14; slots = l3 }
+        G23 = record { locals = List._++_ t7 t10; slots = l2 }
 
         abbrev G24 : Row.Cx
-        G24 = record { locals = List._++_ g16 t14; slots = l3 }
+        G24 = record { locals = List._++_ t7 t10; slots = List._∷_ (Row.lease (κs .0) (qs .0)) (List._∷_ (Row.lease (κs .1 .0) (qs .1 .0)) (List._∷_ (Row.lease (κs .1 .1 .0) (qs .1 .1 .0)) (List._∷_ (Row.lease (κs .1 .1 .1 .0) (qs .1 .1 .1 .0)) (List._∷_ (Row.lease (κs .1 .1 .1 .1 .0) (qs .1 .1 .1 .1 .0)) (List._∷_ (Row.lease (κs .1 .1 .1 .1 .1 .0) (qs .1 .1 .1 .1 .1 .0)) (List._∷_ (Row.lease (κs .1 .1 .1 .1 .1 .1 .0) (qs .1 .1 .1 .1 .1 .1 .0)) (List._∷_ (Row.lease (κs .1 .1 .1 .1 .1 .1 .1 .0) (qs .1 .1 .1 .1 .1 .1 .1 .0)) (List._∷_ (Row.lease (κs .1 .1 .1 .1 .1 .1 .1 .1 .0) (qs .1 .1 .1 .1 .1 .1 .1 .1 .0)) (List._∷_ (Row.lease (κs .1 .1 .1 .1 .1 .1 .1 .1 .1 .0) (qs .1 .1 .1 .1 .1 .1 .1 .1 .1 .0)) (List._∷_ (Row.lease (κs .1 .1 .1 .1 .1 .1 .1 .1 .1 .1 .0) (qs .1 .1 .1 .1 .1 .1 .1 .1 .1 .1 .0)) (List._∷_ (Row.lease (κs .1 .1 .1 .1 .1 .1 .1 .1 .1 .1 .1 .0) (qs .1 .1 .1 .1 .1 .1 .1 .1 .1 .1 .1 .0)) (List._∷_ Row.alive (List._∷_ Row.alive (List._∷_ Row.alive (List._∷_ Row.off List.[]))))))))))))))) }
 
         abbrev G25 : Row.Cx
-        G25 = record { locals = List._++_ g16 t14; slots = l4 }
+        G25 = record { locals = List._++_ g11 t12; slots = l3 }
 
         abbrev G26 : Row.Cx
-        G26 = record { locals = List._++_ g17 t18; slots = l4 }
+        G26 = record { locals = List._++_ g11 t13; slots = l3 }
 
         abbrev G27 : Row.Cx
-        G27 = record { locals = List._++_ g17 t18; slots = List._∷_ (Row.lease (κs .0) (qs .0)) (List._∷_ (Row.lease (κs .1 .0) (qs .1 .0)) (List._∷_ (Row.lease (κs .1 .1 .0) (qs .1 .1 .0)) (List._∷_ (Row.lease (κs .1 .1 .1 .0) (qs .1 .1 .1 .0)) (List._∷_ (Row.lease (κs .1 .1 .1 .1 .0) (qs .1 .1 .1 .1 .0)) (List._∷_ (Row.lease (κs .1 .1 .1 .1 .1 .0) (qs .1 .1 .1 .1 .1 .0)) (List._∷_ (Row.lease (κs .1 .1 .1 .1 .1 .1 .0) (qs .1 .1 .1 .1 .1 .1 .0)) (List._∷_ (Row.lease (κs .1 .1 .1 .1 .1 .1 .1 .0) (qs .1 .1 .1 .1 .1 .1 .1 .0)) (List._∷_ Row.off (List._∷_ Row.off (List._∷_ Row.off (List._∷_ Row.alive (List._∷_ Row.alive List.[])))))))))))) }
+        G27 = record { locals = List._++_ g11 t13; slots = List._∷_ (Row.lease (κs .0) (qs .0)) (List._∷_ (Row.lease (κs .1 .0) (qs .1 .0)) (List._∷_ (Row.lease (κs .1 .1 .0) (qs .1 .1 .0)) (List._∷_ (Row.lease (κs .1 .1 .1 .0) (qs .1 .1 .1 .0)) (List._∷_ (Row.lease (κs .1 .1 .1 .1 .0) (qs .1 .1 .1 .1 .0)) (List._∷_ (Row.lease (κs .1 .1 .1 .1 .1 .0) (qs .1 .1 .1 .1 .1 .0)) (List._∷_ (Row.lease (κs .1 .1 .1 .1 .1 .1 .0) (qs .1 .1 .1 .1 .1 .1 .0)) (List._∷_ (Row.lease (κs .1 .1 .1 .1 .1 .1 .1 .0) (qs .1 .1 .1 .1 .1 .1 .1 .0)) (List._∷_ (Row.lease (κs .1 .1 .1 .1 .1 .1 .1 .1 .0) (qs .1 .1 .1 .1 .1 .1 .1 .1 .0)) (List._∷_ (Row.lease (κs .1 .1 .1 .1 .1 .1 .1 .1 .1 .0) (qs .1 .1 .1 .1 .1 .1 .1 .1 .1 .0)) (List._∷_ Row.off (List._∷_ (Row.lease (κs .1 .1 .1 .1 .1 .1 .1 .1 .1 .1 .1 .0) (qs .1 .1 .1 .1 .1 .1 .1 .1 .1 .1 .1 .0)) (List._∷_ Row.alive (List._∷_ Row.alive (List._∷_ Row.alive (List._∷_ Row.alive List.[]))))))))))))))) }
 
         abbrev G28 : Row.Cx
-        G28 = record { locals = List._++_ g17 t18; slots = List._∷_ (Row.lease (κs .0) (qs .0)) (List._∷_ (Row.lease (κs .1 .0) (qs .1 .0)) (List._∷_ (Row.lease (κs .1 .1 .0) (qs .1 .1 .0)) (List._∷_ (Row.lease (κs .1 .1 .1 .0) (qs .1 .1 .1 .0)) (List._∷_ (Row.lease (κs .1 .1 .1 .1 .0) (qs .1 .1 .1 .1 .0)) (List._∷_ (Row.lease (κs .1 .1 .1 .1 .1 .0) (qs .1 .1 .1 .1 .1 .0)) (List._∷_ (Row.lease (κs .1 .1 .1 .1 .1 .1 .0) (qs .1 .1 .1 .1 .1 .1 .0)) (List._∷_ (Row.lease (κs .1 .1 .1 .1 .1 .1 .1 .0) (qs .1 .1 .1 .1 .1 .1 .1 .0)) (List._∷_ Row.off (List._∷_ Row.off (List._∷_ Row.off (List._∷_ Row.dead (List._∷_ Row.alive List.[])))))))))))) }
+        G28 = record { locals = List._++_ g14 t15; slots = l4 }
 
         abbrev G29 : Row.Cx
-        G29 = record { locals = List._++_ g19 t20; slots = l5 }
+        G29 = record { locals = List._++_ g14 t16; slots = l4 }
 
         abbrev G30 : Row.Cx
-        G30 = record { locals = List._++_ g19 t20; slots = l5 }
+        G30 = record { locals = List._++_ g14 t17; slots = l4 }
 
         abbrev G31 : Row.Cx
-        G31 = record { locals = List._++_ g19 t20; slots = List._∷_ (Row.lease (κs .0) (qs .0)) (List._∷_ (Row.lease (κs .1 .0) (qs .1 .0)) (List._∷_ (Row.lease (κs .1 .1 .0) (qs .1 .1 .0)) (List._∷_ (Row.lease (κs .1 .1 .1 .0) (qs .1 .1 .1 .0)) (List._∷_ (Row.lease (κs .1 .1 .1 .1 .0) (qs .1 .1 .1 .1 .0)) (List._∷_ (Row.lease (κs .1 .1 .1 .1 .1 .0) (qs .1 .1 .1 .1 .1 .0)) (List._∷_ (Row.lease (κs .1 .1 .1 .1 .1 .1 .0) (qs .1 .1 .1 .1 .1 .1 .0)) (List._∷_ (Row.lease (κs .1 .1 .1 .1 .1 .1 .1 .0) (qs .1 .1 .1 .1 .1 .1 .1 .0)) (List._∷_ (Row.lease (κs .1 .1 .1 .1 .1 .1 .1 .1 .0) (qs .1 .1 .1 .1 .1 .1 .1 .1 .0)) (List._∷_ Row.off (List._∷_ Row.off (List._∷_ Row.off (List._∷_ Row.alive List.[])))))))))))) }
+        G31 = record { locals = List._++_ g14 t18; slots = l4 }
 
         abbrev G32 : Row.Cx
-        G32 = record { locals = List._++_ g19 t20; slots = List._∷_ (Row.lease (κs .0) (qs .0)) (List._∷_ (Row.lease (κs .1 .0) (qs .1 .0)) (List._∷_ (Row.lease (κs .1 .1 .0) (qs .1 .1 .0)) (List._∷_ (Row.lease (κs .1 .1 .1 .0) (qs .1 .1 .1 .0)) (List._∷_ (Row.lease (κs .1 .1 .1 .1 .0) (qs .1 .1 .1 .1 .0)) (List._∷_ (Row.lease (κs .1 .1 .1 .1 .1 .0) (qs .1 .1 .1 .1 .1 .0)) (List._∷_ (Row.lease (κs .1 .1 .1 .1 .1 .1 .0) (qs .1 .1 .1 .1 .1 .1 .0)) (List._∷_ (Row.lease (κs .1 .1 .1 .1 .1 .1 .1 .0) (qs .1 .1 .1 .1 .1 .1 .1 .0)) (List._∷_ (Row.lease (κs .1 .1 .1 .1 .1 .1 .1 .1 .0) (qs .1 .1 .1 .1 .1 .1 .1 .1 .0)) (List._∷_ Row.off (List._∷_ Row.off (List._∷_ Row.off (List._∷_ Row.dead List.[])))))))))))) }
+        G32 = record { locals = List._++_ g19 t18; slots = l4 }
 
         abbrev G33 : Row.Cx
-        G33 = record { locals = List._++_ t21 t1; slots = l6 }
+        G33 = record { locals = List._++_ g19 t20; slots = l4 }
 
         abbrev G34 : Row.Cx
-        G34 = record { locals = List._++_ t21 t1; slots = l6 }
+        G34 = record { locals = List._++_ g19 t20; slots = l5 }
 
         abbrev G35 : Row.Cx
-        G35 = record { locals = List._++_ t21 t1; slots = l0 }
+        G35 = record { locals = List._++_ g19 t21; slots = l5 }
 
         abbrev G36 : Row.Cx
-        G36 = record { locals = List._++_ t22 t1; slots = l0 }
+        G36 = record { locals = List._++_ g19 t21; slots = List._∷_ (Row.lease (κs .0) (qs .0)) (List._∷_ (Row.lease (κs .1 .0) (qs .1 .0)) (List._∷_ (Row.lease (κs .1 .1 .0) (qs .1 .1 .0)) (List._∷_ (Row.lease (κs .1 .1 .1 .0) (qs .1 .1 .1 .0)) (List._∷_ (Row.lease (κs .1 .1 .1 .1 .0) (qs .1 .1 .1 .1 .0)) (List._∷_ (Row.lease (κs .1 .1 .1 .1 .1 .0) (qs .1 .1 .1 .1 .1 .0)) (List._∷_ (Row.lease (κs .1 .1 .1 .1 .1 .1 .0) (qs .1 .1 .1 .1 .1 .1 .0)) (List._∷_ (Row.lease (κs .1 .1 .1 .1 .1 .1 .1 .0) (qs .1 .1 .1 .1 .1 .1 .1 .0)) (List._∷_ (Row.lease (κs .1 .1 .1 .1 .1 .1 .1 .1 .0) (qs .1 .1 .1 .1 .1 .1 .1 .1 .0)) (List._∷_ (Row.lease (κs .1 .1 .1 .1 .1 .1 .1 .1 .1 .0) (qs .1 .1 .1 .1 .1 .1 .1 .1 .1 .0)) (List._∷_ Row.off (List._∷_ Row.off (List._∷_ Row.off (List._∷_ Row.alive (List._∷_ Row.alive (List._∷_ Row.alive List.[]))))))))))))))) }
 
         abbrev G37 : Row.Cx
-        G37 = record { locals = List._++_ t23 t1; slots = l0 }
+        G37 = record { locals = List._++_ g19 t21; slots = l6 }
 
         abbrev G38 : Row.Cx
-        G38 = record { locals = List._++_ t2 t1; slots = l0 }
+        G38 = record { locals = List._++_ g19 t22; slots = l6 }
+
+        abbrev G39 : Row.Cx
+        G39 = record { locals = List._++_ g19 t22; slots = l7 }
+
+        abbrev G40 : Row.Cx
+        G40 = record { locals = List._++_ g19 t23; slots = l7 }
+
+        abbrev G41 : Row.Cx
+        G41 = record { locals = List._++_ g19 t23; slots = List._∷_ (Row.lease (κs .0) (qs .0)) (List._∷_ (Row.lease (κs .1 .0) (qs .1 .0)) (List._∷_ (Row.lease (κs .1 .1 .0) (qs .1 .1 .0)) (List._∷_ (Row.lease (κs .1 .1 .1 .0) (qs .1 .1 .1 .0)) (List._∷_ (Row.lease (κs .1 .1 .1 .1 .0) (qs .1 .1 .1 .1 .0)) (List._∷_ (Row.lease (κs .1 .1 .1 .1 .1 .0) (qs .1 .1 .1 .1 .1 .0)) (List._∷_ (Row.lease (κs .1 .1 .1 .1 .1 .1 .0) (qs .1 .1 .1 .1 .1 .1 .0)) (List._∷_ (Row.lease (κs .1 .1 .1 .1 .1 .1 .1 .0) (qs .1 .1 .1 .1 .1 .1 .1 .0)) (List._∷_ (Row.lease (κs .1 .1 .1 .1 .1 .1 .1 .1 .0) (qs .1 .1 .1 .1 .1 .1 .1 .1 .0)) (List._∷_ (Row.lease (κs .1 .1 .1 .1 .1 .1 .1 .1 .1 .0) (qs .1 .1 .1 .1 .1 .1 .1 .1 .1 .0)) (List._∷_ Row.off (List._∷_ Row.off (List._∷_ Row.off (List._∷_ Row.off (List._∷_ Row.dead (List._∷_ Row.alive List.[]))))))))))))))) }
+
+        abbrev G42 : Row.Cx
+        G42 = record { locals = List._++_ g24 t25; slots = l8 }
+
+        abbrev G43 : Row.Cx
+        G43 = record { locals = List._++_ g24 t25; slots = l8 }
+
+        abbrev G44 : Row.Cx
+        G44 = record { locals = List._++_ g24 t25; slots = List._∷_ (Row.lease (κs .0) (qs .0)) (List._∷_ (Row.lease (κs .1 .0) (qs .1 .0)) (List._∷_ (Row.lease (κs .1 .1 .0) (qs .1 .1 .0)) (List._∷_ (Row.lease (κs .1 .1 .1 .0) (qs .1 .1 .1 .0)) (List._∷_ (Row.lease (κs .1 .1 .1 .1 .0) (qs .1 .1 .1 .1 .0)) (List._∷_ (Row.lease (κs .1 .1 .1 .1 .1 .0) (qs .1 .1 .1 .1 .1 .0)) (List._∷_ (Row.lease (κs .1 .1 .1 .1 .1 .1 .0) (qs .1 .1 .1 .1 .1 .1 .0)) (List._∷_ (Row.lease (κs .1 .1 .1 .1 .1 .1 .1 .0) (qs .1 .1 .1 .1 .1 .1 .1 .0)) (List._∷_ (Row.lease (κs .1 .1 .1 .1 .1 .1 .1 .1 .0) (qs .1 .1 .1 .1 .1 .1 .1 .1 .0)) (List._∷_ (Row.lease (κs .1 .1 .1 .1 .1 .1 .1 .1 .1 .0) (qs .1 .1 .1 .1 .1 .1 .1 .1 .1 .0)) (List._∷_ (Row.lease (κs .1 .1 .1 .1 .1 .1 .1 .1 .1 .1 .0) (qs .1 .1 .1 .1 .1 .1 .1 .1 .1 .1 .0)) (List._∷_ Row.off (List._∷_ Row.off (List._∷_ Row.off (List._∷_ Row.off (List._∷_ Row.alive List.[]))))))))))))))) }
+
+        abbrev G45 : Row.Cx
+        G45 = record { locals = List._++_ g24 t25; slots = List._∷_ (Row.lease (κs .0) (qs .0)) (List._∷_ (Row.lease (κs .1 .0) (qs .1 .0)) (List._∷_ (Row.lease (κs .1 .1 .0) (qs .1 .1 .0)) (List._∷_ (Row.lease (κs .1 .1 .1 .0) (qs .1 .1 .1 .0)) (List._∷_ (Row.lease (κs .1 .1 .1 .1 .0) (qs .1 .1 .1 .1 .0)) (List._∷_ (Row.lease (κs .1 .1 .1 .1 .1 .0) (qs .1 .1 .1 .1 .1 .0)) (List._∷_ (Row.lease (κs .1 .1 .1 .1 .1 .1 .0) (qs .1 .1 .1 .1 .1 .1 .0)) (List._∷_ (Row.lease (κs .1 .1 .1 .1 .1 .1 .1 .0) (qs .1 .1 .1 .1 .1 .1 .1 .0)) (List._∷_ (Row.lease (κs .1 .1 .1 .1 .1 .1 .1 .1 .0) (qs .1 .1 .1 .1 .1 .1 .1 .1 .0)) (List._∷_ (Row.lease (κs .1 .1 .1 .1 .1 .1 .1 .1 .1 .0) (qs .1 .1 .1 .1 .1 .1 .1 .1 .1 .0)) (List._∷_ (Row.lease (κs .1 .1 .1 .1 .1 .1 .1 .1 .1 .1 .0) (qs .1 .1 .1 .1 .1 .1 .1 .1 .1 .1 .0)) (List._∷_ Row.off (List._∷_ Row.off (List._∷_ Row.off (List._∷_ Row.off (List._∷_ Row.dead List.[]))))))))))))))) }
+
+        abbrev G46 : Row.Cx
+        G46 = record { locals = List._++_ t26 t27; slots = l9 }
+
+        abbrev G47 : Row.Cx
+        G47 = record { locals = List._++_ t26 t27; slots = l9 }
+
+        abbrev G48 : Row.Cx
+        G48 = record { locals = List._++_ t26 t27; slots = l0 }
+
+        abbrev G49 : Row.Cx
+        G49 = record { locals = List._++_ t28 t27; slots = l0 }
+
+        abbrev G50 : Row.Cx
+        G50 = record { locals = List._++_ t28 t1; slots = l0 }
+
+        abbrev G51 : Row.Cx
+        G51 = record { locals = List._++_ t2 t1; slots = l0 }
 
         abbrev Δ0 : Typed.Outs
         Δ0 = record { next = Option.none; exits = List.[]; returns = Option.some G1 }
 
-        module _ {M : Type 1} (𝓤 : URA.URA M) (H : Wp.Heap 𝓤) (A : Atoms.Atoms 𝓤) (W : Kit.Given 𝓤 H A) (𝓣 : Wp.Tables 𝓤 H) (known : Knowns 𝓤 H A W 𝓣) (bs : List.List Nat.ℕ) (bd : Lifetimes.AllOutlive 10 (Kinds.osR r) κs) where
+        module _ {M : Type 1} (𝓤 : URA.URA M) (H : Wp.Heap 𝓤) (A : Atoms.Atoms 𝓤) (W : Kit.Given 𝓤 H A) (𝓣 : Wp.Tables 𝓤 H) (known : Knowns 𝓤 H A W 𝓣) (bs : List.List Nat.ℕ) (bd : Lifetimes.AllOutlive 12 (Kinds.osR r) κs) where
           abbrev E : Wp.Env 𝓤 H
           E = Frame.EnvOf 𝓤 H (List._∷_ (Kinds.tyR r) (Enter.tysP ps xs)) bs
 
-          d0 : Typed.Typed 𝓤 H A 𝓣 E G38 b8 Δ0 at0
+          d0 : Typed.Typed 𝓤 H A 𝓣 E G51 b12 Δ0 at0
           d0 = Typed.t-return 𝓤 H A W 𝓣 E Δ0 tt
 
-          d1 : Typed.Typed 𝓤 H A 𝓣 E G37 b8 Δ0 at1
-          d1 = Typed.g-pre 𝓤 H A W 𝓣 E G37 G38 b8 Δ0 (Typed.pass T37 T38 s36) at0 (Scalar.g-room 𝓤 H A W E G37 2 (Syntax.tyInt Syntax.w64) (Scalar.room-sc 𝓤 H A W (Row.sInt Syntax.w64))) d0
+          d1 : Typed.Typed 𝓤 H A 𝓣 E G50 b12 Δ0 at1
+          d1 = Typed.g-pre 𝓤 H A W 𝓣 E G50 G51 b12 Δ0 (Typed.pass T50 T51 s49) at0 (Scalar.g-room 𝓤 H A W E G50 2 (Syntax.tyInt Syntax.w64) (Scalar.room-sc 𝓤 H A W (Row.sInt Syntax.w64))) d0
 
-          d2 : Typed.Typed 𝓤 H A 𝓣 E G36 b8 Δ0 at2
-          d2 = Typed.g-pre 𝓤 H A W 𝓣 E G36 G37 b8 Δ0 (Typed.pass T36 T37 s35) at1 (Scalar.g-room 𝓤 H A W E G36 14 S·Tally.laid (S·Tally.room 𝓤 H A W)) d1
+          d2 : Typed.Typed 𝓤 H A 𝓣 E G49 b12 Δ0 at2
+          d2 = Typed.g-pre 𝓤 H A W 𝓣 E G49 G50 b12 Δ0 (Typed.pass T49 T50 s48) at1 (Scalar.g-room 𝓤 H A W E G49 17 S·Tally.laid (S·Tally.room 𝓤 H A W)) d1
 
-          d3 : Typed.Typed 𝓤 H A 𝓣 E G35 b9 Δ0 at3
-          d3 = Typed.s-seq 𝓤 H A W 𝓣 E G35 G36 b7 b8 Δ0 (Typed.pass T34 T36 s34) at2 (LocalCopy.t-val-copy 𝓤 H A W E 𝓣 (λ ρ. Unit) G35 14 0 S·Tally.R S·Tally.laid S·Tally.laid S·Tally.whole S·Tally.whole (λ x. x) (λ x. x) (λ x. x) Path'.refl (Own.told-none 𝓤 H A (G35 .slots)) (Yields.yields-copy 𝓤 H A W (λ ρ. Unit) S·Tally.R Path'.refl (S·Tally.copies .copy 𝓤 H A W) S·Tally.whole (λ x. x) (λ x. x) (λ ρ told. S·Tally.in-mem 𝓤 H A W ρ) λ ρ told. S·Tally.of-mem 𝓤 H A W ρ) (Reads.room-gone 𝓤 H A S·Tally.laid) (Yields.makes-mem 𝓤 H A W (λ ρ. Unit) S·Tally.R Path'.refl S·Tally.whole (λ x. x) λ ρ told. S·Tally.of-mem 𝓤 H A W ρ) Path'.refl Path'.refl) d2
+          d3 : Typed.Typed 𝓤 H A 𝓣 E G48 b13 Δ0 at3
+          d3 = Typed.s-seq 𝓤 H A W 𝓣 E G48 G49 b11 b12 Δ0 (Typed.pass T47 T49 s47) at2 (LocalCopy.t-val-copy 𝓤 H A W E 𝓣 (λ ρ. Unit) G48 17 0 S·Tally.R S·Tally.laid S·Tally.laid S·Tally.whole S·Tally.whole (λ x. x) (λ x. x) (λ x. x) Path'.refl (Own.told-none 𝓤 H A (G48 .slots)) (Yields.yields-copy 𝓤 H A W (λ ρ. Unit) S·Tally.R Path'.refl (S·Tally.copies .copy 𝓤 H A W) S·Tally.whole (λ x. x) (λ x. x) (λ ρ told. S·Tally.in-mem 𝓤 H A W ρ) λ ρ told. S·Tally.of-mem 𝓤 H A W ρ) (Reads'.room-gone 𝓤 H A S·Tally.laid) (Yields.makes-mem 𝓤 H A W (λ ρ. Unit) S·Tally.R Path'.refl S·Tally.whole (λ x. x) λ ρ told. S·Tally.of-mem 𝓤 H A W ρ) Path'.refl Path'.refl) d2
 
-          d4 : Typed.Typed 𝓤 H A 𝓣 E G34 b9 Δ0 at4
-          d4 = Typed.g-pre 𝓤 H A W 𝓣 E G34 G35 b9 Δ0 (λ Ψ. Ψ) at3 (Lifetime.g-forget 𝓤 H A W E G34 12 Row.dead Path'.refl) d3
+          d4 : Typed.Typed 𝓤 H A 𝓣 E G47 b13 Δ0 at4
+          d4 = Typed.g-pre 𝓤 H A W 𝓣 E G47 G48 b13 Δ0 (λ Ψ. Ψ) at3 (Lifetime.g-forget 𝓤 H A W E G47 15 Row.dead Path'.refl) d3
 
-          d5 : Typed.Typed 𝓤 H A 𝓣 E G33 b9 Δ0 at5
-          d5 = Typed.g-pre 𝓤 H A W 𝓣 E G33 G34 b9 Δ0 (Typed.give s32) at4 (Know.g-sl-known 𝓤 H A W (Referent.fInt Syntax.w32) E G33 13 9 y12 (Row.lease (κs .1 .1 .1 .1 .1 .1 .1 .1 .1 .0) (qs .1 .1 .1 .1 .1 .1 .1 .1 .1 .0)) 0 (λ x. x) record { fits = Dec'.lit< tt } (Reads.as-is 𝓤 H A (Mut.mslice (Referent.rtF (Referent.fInt Syntax.w32)) y12 9)) Path'.refl tt) d4
+          d5 : Typed.Typed 𝓤 H A 𝓣 E G46 b13 Δ0 at5
+          d5 = Typed.g-pre 𝓤 H A W 𝓣 E G46 G47 b13 Δ0 (Typed.give s45) at4 (Know.g-sl-known 𝓤 H A W (Referent.fInt Syntax.w32) E G46 15 11 y16 (Row.lease (κs .1 .1 .1 .1 .1 .1 .1 .1 .1 .1 .1 .0) (qs .1 .1 .1 .1 .1 .1 .1 .1 .1 .1 .1 .0)) 0 (λ x. x) record { fits = Dec'.lit< tt } (Reads'.as-is 𝓤 H A (Mut.mslice (Referent.rtF (Referent.fInt Syntax.w32)) y16 11)) Path'.refl tt) d4
 
-          d6 : Typed.Typed 𝓤 H A 𝓣 E G32 b9 Δ0 at6
-          d6 = Typed.g-pre 𝓤 H A W 𝓣 E G32 G33 b9 Δ0 (Typed.both s31) at5 (Relend.g-back-sl 𝓤 H A W E (Referent.rtF (Referent.fInt Syntax.w32)) G32 20 13 9 12 y12 y1 (Row.lease (κs .1 .1 .1 .1 .1 .1 .1 .1 .1 .0) (qs .1 .1 .1 .1 .1 .1 .1 .1 .1 .0)) (λ x. x) (λ x. x) (Reads.as-is 𝓤 H A (Mut.msleft (Referent.rtF (Referent.fInt Syntax.w32)) y1)) (Reads.as-is 𝓤 H A (Relend.mslice-owed (Referent.rtF (Referent.fInt Syntax.w32)) y12 9 12 (Row.lease (κs .1 .1 .1 .1 .1 .1 .1 .1 .1 .0) (qs .1 .1 .1 .1 .1 .1 .1 .1 .1 .0)))) Path'.refl Path'.refl) d5
+          d6 : Typed.Typed 𝓤 H A 𝓣 E G45 b13 Δ0 at6
+          d6 = Typed.g-pre 𝓤 H A W 𝓣 E G45 G46 b13 Δ0 (Typed.both s44) at5 (Relend.g-back-sl 𝓤 H A W E (Referent.rtF (Referent.fInt Syntax.w32)) G45 26 15 11 15 y16 y3 (Row.lease (κs .1 .1 .1 .1 .1 .1 .1 .1 .1 .1 .1 .0) (qs .1 .1 .1 .1 .1 .1 .1 .1 .1 .1 .1 .0)) (λ x. x) (λ x. x) (Reads'.as-is 𝓤 H A (Mut.msleft (Referent.rtF (Referent.fInt Syntax.w32)) y3)) (Reads'.as-is 𝓤 H A (Relend.mslice-owed (Referent.rtF (Referent.fInt Syntax.w32)) y16 11 15 (Row.lease (κs .1 .1 .1 .1 .1 .1 .1 .1 .1 .1 .1 .0) (qs .1 .1 .1 .1 .1 .1 .1 .1 .1 .1 .1 .0)))) Path'.refl Path'.refl) d5
 
-          d7 : Typed.Typed 𝓤 H A 𝓣 E G31 b9 Δ0 at7
-          d7 = Typed.g-pre 𝓤 H A W 𝓣 E G31 G32 b9 Δ0 (λ Ψ. Ψ) at6 (Lifetime.g-end 𝓤 H A W E G31 12 Path'.refl) d6
+          d7 : Typed.Typed 𝓤 H A 𝓣 E G44 b13 Δ0 at7
+          d7 = Typed.g-pre 𝓤 H A W 𝓣 E G44 G45 b13 Δ0 (λ Ψ. Ψ) at6 (Lifetime.g-end 𝓤 H A W E G44 15 Path'.refl) d6
 
-          d8 : Typed.Typed 𝓤 H A 𝓣 E G30 b9 Δ0 at8
-          d8 = Typed.g-pre 𝓤 H A W 𝓣 E G30 G31 b9 Δ0 (λ Ψ. Ψ) at7 (Lifetime.g-forget 𝓤 H A W E G30 11 Row.dead Path'.refl) d7
+          d8 : Typed.Typed 𝓤 H A 𝓣 E G43 b13 Δ0 at8
+          d8 = Typed.g-pre 𝓤 H A W 𝓣 E G43 G44 b13 Δ0 (λ Ψ. Ψ) at7 (Lifetime.g-forget 𝓤 H A W E G43 14 Row.dead Path'.refl) d7
 
-          d9 : Typed.Typed 𝓤 H A 𝓣 E G29 b9 Δ0 at9
-          d9 = Typed.g-pre 𝓤 H A W 𝓣 E G29 G30 b9 Δ0 (Typed.give s28) at8 (Know.g-sl-known 𝓤 H A W (Referent.fInt Syntax.w32) E G29 12 8 y11 (Row.lease (κs .1 .1 .1 .1 .1 .1 .1 .1 .0) (qs .1 .1 .1 .1 .1 .1 .1 .1 .0)) 0 (λ x. x) record { fits = Dec'.lit< tt } (Reads.as-is 𝓤 H A (Mut.mslice (Referent.rtF (Referent.fInt Syntax.w32)) y11 8)) Path'.refl tt) d8
+          d9 : Typed.Typed 𝓤 H A 𝓣 E G42 b13 Δ0 at9
+          d9 = Typed.g-pre 𝓤 H A W 𝓣 E G42 G43 b13 Δ0 (Typed.give s41) at8 (Know.g-sl-known 𝓤 H A W (Referent.fInt Syntax.w32) E G42 14 10 y15 (Row.lease (κs .1 .1 .1 .1 .1 .1 .1 .1 .1 .1 .0) (qs .1 .1 .1 .1 .1 .1 .1 .1 .1 .1 .0)) 0 (λ x. x) record { fits = Dec'.lit< tt } (Reads'.as-is 𝓤 H A (Mut.mslice (Referent.rtF (Referent.fInt Syntax.w32)) y15 10)) Path'.refl tt) d8
 
-          d10 : Typed.Typed 𝓤 H A 𝓣 E G28 b9 Δ0 at10
-          d10 = Typed.g-pre 𝓤 H A W 𝓣 E G28 G29 b9 Δ0 (Typed.both s27) at9 (Relend.g-back-sl 𝓤 H A W E (Referent.rtF (Referent.fInt Syntax.w32)) G28 18 12 8 11 y11 y1 (Row.lease (κs .1 .1 .1 .1 .1 .1 .1 .1 .0) (qs .1 .1 .1 .1 .1 .1 .1 .1 .0)) (λ x. x) (λ x. x) (Reads.as-is 𝓤 H A (Mut.msleft (Referent.rtF (Referent.fInt Syntax.w32)) y1)) (Reads.as-is 𝓤 H A (Relend.mslice-owed (Referent.rtF (Referent.fInt Syntax.w32)) y11 8 11 (Row.lease (κs .1 .1 .1 .1 .1 .1 .1 .1 .0) (qs .1 .1 .1 .1 .1 .1 .1 .1 .0)))) Path'.refl Path'.refl) d9
+          d10 : Typed.Typed 𝓤 H A 𝓣 E G41 b13 Δ0 at10
+          d10 = Typed.g-pre 𝓤 H A W 𝓣 E G41 G42 b13 Δ0 (Typed.both s40) at9 (Relend.g-back-sl 𝓤 H A W E (Referent.rtF (Referent.fInt Syntax.w32)) G41 24 14 10 14 y15 y3 (Row.lease (κs .1 .1 .1 .1 .1 .1 .1 .1 .1 .1 .0) (qs .1 .1 .1 .1 .1 .1 .1 .1 .1 .1 .0)) (λ x. x) (λ x. x) (Reads'.as-is 𝓤 H A (Mut.msleft (Referent.rtF (Referent.fInt Syntax.w32)) y3)) (Reads'.as-is 𝓤 H A (Relend.mslice-owed (Referent.rtF (Referent.fInt Syntax.w32)) y15 10 14 (Row.lease (κs .1 .1 .1 .1 .1 .1 .1 .1 .1 .1 .0) (qs .1 .1 .1 .1 .1 .1 .1 .1 .1 .1 .0)))) Path'.refl Path'.refl) d9
 
-          d11 : Typed.Typed 𝓤 H A 𝓣 E G27 b9 Δ0 at11
-          d11 = Typed.g-pre 𝓤 H A W 𝓣 E G27 G28 b9 Δ0 (λ Ψ. Ψ) at10 (Lifetime.g-end 𝓤 H A W E G27 11 Path'.refl) d10
+          d11 : Typed.Typed 𝓤 H A 𝓣 E G40 b13 Δ0 at11
+          d11 = Typed.g-pre 𝓤 H A W 𝓣 E G40 G41 b13 Δ0 (λ Ψ. Ψ) at10 (Lifetime.g-end 𝓤 H A W E G40 14 Path'.refl) d10
 
-          d12 : Typed.Typed 𝓤 H A 𝓣 E G26 b9 Δ0 at12
-          d12 = Typed.g-pre 𝓤 H A W 𝓣 E G26 G27 b9 Δ0 (λ Ψ. Ψ) at11 (Lifetime.g-forget 𝓤 H A W E G26 10 Row.dead Path'.refl) d11
+          d12 : Typed.Typed 𝓤 H A 𝓣 E G39 b13 Δ0 at12
+          d12 = Typed.g-pre 𝓤 H A W 𝓣 E G39 G40 b13 Δ0 (Typed.pass T38 T40 s38) at11 (Scalar.g-room 𝓤 H A W E G39 16 (Syntax.tyArray S·Link.laid 512) (Init.room-arr 𝓤 H A W S·Link.R 512 0 512 Path'.refl)) d11
 
-          d13 : Typed.Typed 𝓤 H A 𝓣 E G25 b9 Δ0 at13
-          d13 = Typed.g-pre 𝓤 H A W 𝓣 E G25 G26 b9 Δ0 (Typed.ask s24) at12 (Local.g-back-sc 𝓤 H A W E G25 16 14 10 S·Tally.R y0 S·Tally.whole (λ x. x) (λ x. x) (λ x. x) (Reads.as-is 𝓤 H A (Rows'.mleft S·Tally.R y0)) (Reads.as-is 𝓤 H A (Rows'.sc-owed S·Tally.R 10)) (S·Tally.of-mem 𝓤 H A W) Path'.refl) d12
+          d13 : Typed.Typed 𝓤 H A 𝓣 E G38 b13 Δ0 at13
+          d13 = Typed.g-pre 𝓤 H A W 𝓣 E G38 G39 b13 Δ0 (λ Ψ. Ψ) at12 (Lifetime.g-forget 𝓤 H A W E G38 13 Row.dead Path'.refl) d12
 
-          d14 : Typed.Typed 𝓤 H A 𝓣 E G24 b9 Δ0 at14
-          d14 = Typed.g-pre 𝓤 H A W 𝓣 E G24 G25 b9 Δ0 (λ Ψ. Ψ) at13 (Lifetime.g-end 𝓤 H A W E G24 10 Path'.refl) d13
+          d14 : Typed.Typed 𝓤 H A 𝓣 E G37 b13 Δ0 at14
+          d14 = Typed.g-pre 𝓤 H A W 𝓣 E G37 G38 b13 Δ0 (Typed.pass T35 T38 s36) at13 (Share.g-back-arr-shr 𝓤 H A W E S·Link.R G37 16 512 13 (λ x. x) (Reads'.as-is 𝓤 H A (Rows.arr-shr S·Link.R 512 13)) Path'.refl) d13
 
-          d15 : Typed.Typed 𝓤 H A 𝓣 E G23 b9 Δ0 at15
-          d15 = Typed.g-pre 𝓤 H A W 𝓣 E G23 G24 b9 Δ0 (Typed.pass T23 T24 s22) at14 (Scalar.g-room 𝓤 H A W E G23 15 Syntax.tyUnit (Scalar.room-sc 𝓤 H A W Row.sUnit)) d14
+          d15 : Typed.Typed 𝓤 H A 𝓣 E G36 b13 Δ0 at15
+          d15 = Typed.g-pre 𝓤 H A W 𝓣 E G36 G37 b13 Δ0 (λ Ψ. Ψ) at14 (Lifetime.g-end 𝓤 H A W E G36 13 Path'.refl) d14
 
-          d16 : Typed.Typed 𝓤 H A 𝓣 E G22 b9 Δ0 at16
-          d16 = Typed.g-pre 𝓤 H A W 𝓣 E G22 G23 b9 Δ0 (Typed.pass T22 T23 s21) at15 (Scalar.g-room 𝓤 H A W E G22 1 y13 (Local.room-whole 𝓤 H A W (Declared.row SheetHeld.the-type) y13 Path'.refl)) d15
+          d16 : Typed.Typed 𝓤 H A 𝓣 E G35 b13 Δ0 at16
+          d16 = Typed.g-pre 𝓤 H A W 𝓣 E G35 G36 b13 Δ0 (λ Ψ. Ψ) at15 (Lifetime.g-forget 𝓤 H A W E G35 12 Row.dead Path'.refl) d15
 
-          d17 : Typed.Typed 𝓤 H A 𝓣 E G21 b10 Δ0 at17
-          d17 = Typed.s-seq 𝓤 H A W 𝓣 E G21 G22 b6 b9 Δ0 (Typed.both s20) at16 (Plain.t-call-plain 𝓤 H A W 𝓣 11 ps·0 r·0 (claims· .0) (claims· .1) "messages::deliver" known E (λ pos β. β) G21 (record { pos = 1; st = List.[]; d = 0; at = λ x. x }, (Num.vAt 2 λ x. x, (record { pos = 16; ty = Syntax.tyRef Syntax.erased Syntax.mut S·Tally.behind; ref = λ x. x }, (record { pos = 4; ty = Syntax.tyRef (Syntax.named 0) Syntax.imm (Syntax.tyInt Syntax.w32); ref = λ x. x }, (record { pos = 5; ty = Syntax.tyRef (Syntax.named 1) Syntax.imm (Syntax.tyInt Syntax.w8); ref = λ x. x }, (record { pos = 6; ty = Syntax.tyRef (Syntax.named 2) Syntax.imm (Syntax.tyInt Syntax.w16); ref = λ x. x }, (record { pos = 7; ty = Syntax.tyRef (Syntax.named 3) Syntax.imm (Syntax.tyInt Syntax.w16); ref = λ x. x }, (record { pos = 8; ty = Syntax.tyRef (Syntax.named 4) Syntax.imm (Syntax.tyInt Syntax.w16); ref = λ x. x }, (record { pos = 9; ty = Syntax.tyRef (Syntax.named 5) Syntax.imm (Syntax.tyInt Syntax.w32); ref = λ x. x }, (record { pos = 10; ty = Syntax.tyRef (Syntax.named 6) Syntax.imm (Syntax.tyInt Syntax.w32); ref = λ x. x }, (record { pos = 11; ty = Syntax.tyRef (Syntax.named 7) Syntax.imm (Syntax.tyInt Syntax.w16); ref = λ x. x }, (record { pos = 18; ty = Syntax.tyRef Syntax.erased Syntax.mut (Syntax.tyInt Syntax.w32); ref = λ x. x }, (record { pos = 20; ty = Syntax.tyRef Syntax.erased Syntax.mut (Syntax.tyInt Syntax.w32); ref = λ x. x }, tt))))))))))))) 15 (List._∷_ 10 (List._∷_ 0 (List._∷_ 1 (List._∷_ 2 (List._∷_ 3 (List._∷_ 4 (List._∷_ 5 (List._∷_ 6 (List._∷_ 7 (List._∷_ 11 (List._∷_ 12 List.[]))))))))))) (Call.sub-id 𝓤 H A W (G21 .slots)) ((Yields.yields-copy 𝓤 H A W (λ ρ. Unit) (Declared.row SheetHeld.the-type) Path'.refl (Copies.cStruct SheetHeld.the-type Laws.the-laws Laws.the-copy .copy 𝓤 H A W) (Rows'.whole (Declared.row SheetHeld.the-type)) (λ x. x) (λ x. x) (λ ρ told. Local.mem-whole 𝓤 H A W (Declared.row SheetHeld.the-type) ρ) λ ρ told. Local.whole-mem 𝓤 H A W (Declared.row SheetHeld.the-type) ρ, Path'.refl), ((Scalar.reads-sc 𝓤 H A W (Row.sInt Syntax.w64), Path'.refl), (Reads.as-is 𝓤 H A (Rows'.mref S·Tally.R y0 10), Reads.reads-mref 𝓤 H A W S·Tally.R y0 10, Path'.refl, (ShrSlice.spares-sslice 𝓤 H A W (Referent.rtF (Referent.fInt Syntax.w32)) y3 0, Shared.reads-sslice 𝓤 H A W (Referent.rtF (Referent.fInt Syntax.w32)) y3 0, Path'.refl, (ShrSlice.spares-sslice 𝓤 H A W (Referent.rtF (Referent.fInt Syntax.w8)) y4 1, Shared.reads-sslice 𝓤 H A W (Referent.rtF (Referent.fInt Syntax.w8)) y4 1, Path'.refl, (ShrSlice.spares-sslice 𝓤 H A W (Referent.rtF (Referent.fInt Syntax.w16)) y5 2, Shared.reads-sslice 𝓤 H A W (Referent.rtF (Referent.fInt Syntax.w16)) y5 2, Path'.refl, (ShrSlice.spares-sslice 𝓤 H A W (Referent.rtF (Referent.fInt Syntax.w16)) y6 3, Shared.reads-sslice 𝓤 H A W (Referent.rtF (Referent.fInt Syntax.w16)) y6 3, Path'.refl, (ShrSlice.spares-sslice 𝓤 H A W (Referent.rtF (Referent.fInt Syntax.w16)) y7 4, Shared.reads-sslice 𝓤 H A W (Referent.rtF (Referent.fInt Syntax.w16)) y7 4, Path'.refl, (ShrSlice.spares-sslice 𝓤 H A W (Referent.rtF (Referent.fInt Syntax.w32)) y8 5, Shared.reads-sslice 𝓤 H A W (Referent.rtF (Referent.fInt Syntax.w32)) y8 5, Path'.refl, (ShrSlice.spares-sslice 𝓤 H A W (Referent.rtF (Referent.fInt Syntax.w32)) y9 6, Shared.reads-sslice 𝓤 H A W (Referent.rtF (Referent.fInt Syntax.w32)) y9 6, Path'.refl, (ShrSlice.spares-sslice 𝓤 H A W (Referent.rtF (Referent.fInt Syntax.w16)) y10 7, Shared.reads-sslice 𝓤 H A W (Referent.rtF (Referent.fInt Syntax.w16)) y10 7, Path'.refl, (Reads.as-is 𝓤 H A (Mut.mslice (Referent.rtF (Referent.fInt Syntax.w32)) y1 11), Mut.reads-mslice 𝓤 H A W (Referent.rtF (Referent.fInt Syntax.w32)) y1 11, Path'.refl, (Reads.as-is 𝓤 H A (Mut.mslice (Referent.rtF (Referent.fInt Syntax.w32)) y1 12), Mut.reads-mslice 𝓤 H A W (Referent.rtF (Referent.fInt Syntax.w32)) y1 12, Path'.refl, tt))))))))))))) (Reads.room-gone 𝓤 H A Syntax.tyUnit) (tt, (tt, (tt, (tt, (tt, (tt, (tt, (tt, (tt, (tt, (tt, tt))))))))))) Path'.refl) d16
+          d17 : Typed.Typed 𝓤 H A 𝓣 E G34 b13 Δ0 at17
+          d17 = Typed.g-pre 𝓤 H A W 𝓣 E G34 G35 b13 Δ0 (Typed.ask s33) at16 (Local.g-back-sc 𝓤 H A W E G34 20 17 12 S·Tally.R y0 S·Tally.whole (λ x. x) (λ x. x) (λ x. x) (Reads'.as-is 𝓤 H A (Rows'.mleft S·Tally.R y0)) (Reads'.as-is 𝓤 H A (Rows'.sc-owed S·Tally.R 12)) (S·Tally.of-mem 𝓤 H A W) Path'.refl) d16
 
-          d18 : Typed.Typed 𝓤 H A 𝓣 E G20 b11 Δ0 at18
-          d18 = Typed.s-seq 𝓤 H A W 𝓣 E G20 G21 b5 b10 Δ0 (Typed.ask s19) at17 (Relend.t-sl-aggregate 𝓤 H A W E (Referent.rtF (Referent.fInt Syntax.w32)) 𝓣 (Relend.asMut (Referent.rtF (Referent.fInt Syntax.w32))) G20 19 20 12 y1 y1 (λ x. x) (Scalar.oFld 13 (List._∷_ (Syntax.field 1) List.[]) (Syntax.tyInt Syntax.w64) 8 λ v. Shared.lenV (v .0)) (Reads.as-is 𝓤 H A (Relend.msptr (Referent.rtF (Referent.fInt Syntax.w32)) y1 12)) (Reads.room-gone 𝓤 H A y2) (Relend.reads-owed-len 𝓤 H A W (Referent.rtF (Referent.fInt Syntax.w32)) y12 9 12 (Row.lease (κs .1 .1 .1 .1 .1 .1 .1 .1 .1 .0) (qs .1 .1 .1 .1 .1 .1 .1 .1 .1 .0)) 8 Path'.refl, Path'.refl) Path'.refl Path'.refl λ b o k. tt) d17
+          d18 : Typed.Typed 𝓤 H A 𝓣 E G33 b13 Δ0 at18
+          d18 = Typed.g-pre 𝓤 H A W 𝓣 E G33 G34 b13 Δ0 (λ Ψ. Ψ) at17 (Lifetime.g-end 𝓤 H A W E G33 12 Path'.refl) d17
 
-          d19 : Typed.Typed 𝓤 H A 𝓣 E G19 b12 Δ0 at19
-          d19 = Typed.s-seq 𝓤 H A W 𝓣 E G19 G20 b4 b11 Δ0 (Typed.give s18) at18 (Relend.t-sl-relend 𝓤 H A W E (Referent.rtF (Referent.fInt Syntax.w32)) 𝓣 G19 13 19 9 12 y12 y1 (Row.lease (κs .1 .1 .1 .1 .1 .1 .1 .1 .1 .0) (qs .1 .1 .1 .1 .1 .1 .1 .1 .1 .0)) 0 (λ x. x) (Reads.as-is 𝓤 H A (Mut.mslice (Referent.rtF (Referent.fInt Syntax.w32)) y12 9)) (Reads.room-gone 𝓤 H A y1) Path'.refl tt Path'.refl Path'.refl Path'.refl λ b o. tt) d18
+          d19 : Typed.Typed 𝓤 H A 𝓣 E G32 b13 Δ0 at19
+          d19 = Typed.g-pre 𝓤 H A W 𝓣 E G32 G33 b13 Δ0 (Typed.pass T32 T33 s31) at18 (Scalar.g-room 𝓤 H A W E G32 19 Syntax.tyUnit (Scalar.room-sc 𝓤 H A W Row.sUnit)) d18
 
-          d20 : Typed.Typed 𝓤 H A 𝓣 E G18 b12 Δ0 at20
-          d20 = Typed.g-pre 𝓤 H A W 𝓣 E G18 G19 b12 Δ0 (λ Ψ. Ψ) at19 (Lifetime.g-begin 𝓤 H A W E G18 12 (tt, (tt, (tt, (tt, (tt, (tt, (tt, (tt, (tt, (tt, (tt, (tt, ((tt, tt), (tt, (tt, (tt, (tt, (tt, (tt, (tt, (tt, tt)))))))))))))))))))))) d19
+          d20 : Typed.Typed 𝓤 H A 𝓣 E G31 b13 Δ0 at20
+          d20 = Typed.g-pre 𝓤 H A W 𝓣 E G31 G32 b13 Δ0 (Typed.pass T31 T32 s30) at19 (Scalar.g-room 𝓤 H A W E G31 1 y17 (Local.room-whole 𝓤 H A W (Declared.row SheetHeld.the-type) y17 Path'.refl)) d19
 
-          d21 : Typed.Typed 𝓤 H A 𝓣 E G17 b13 Δ0 at21
-          d21 = Typed.s-seq 𝓤 H A W 𝓣 E G17 G18 b3 b12 Δ0 (Typed.ask s16) at20 (Relend.t-sl-aggregate 𝓤 H A W E (Referent.rtF (Referent.fInt Syntax.w32)) 𝓣 (Relend.asMut (Referent.rtF (Referent.fInt Syntax.w32))) G17 17 18 11 y1 y1 (λ x. x) (Scalar.oFld 12 (List._∷_ (Syntax.field 1) List.[]) (Syntax.tyInt Syntax.w64) 8 λ v. Shared.lenV (v .0)) (Reads.as-is 𝓤 H A (Relend.msptr (Referent.rtF (Referent.fInt Syntax.w32)) y1 11)) (Reads.room-gone 𝓤 H A y2) (Relend.reads-owed-len 𝓤 H A W (Referent.rtF (Referent.fInt Syntax.w32)) y11 8 11 (Row.lease (κs .1 .1 .1 .1 .1 .1 .1 .1 .0) (qs .1 .1 .1 .1 .1 .1 .1 .1 .0)) 8 Path'.refl, Path'.refl) Path'.refl Path'.refl λ b o k. tt) d20
+          d21 : Typed.Typed 𝓤 H A 𝓣 E G30 b13 Δ0 at21
+          d21 = Typed.g-pre 𝓤 H A W 𝓣 E G30 G31 b13 Δ0 (Typed.pass T30 T31 s29) at20 (Scalar.g-room 𝓤 H A W E G30 22 y2 (Shared.room-sslice 𝓤 H A W S·Link.R y18 13)) d20
 
-          d22 : Typed.Typed 𝓤 H A 𝓣 E G16 b14 Δ0 at22
-          d22 = Typed.s-seq 𝓤 H A W 𝓣 E G16 G17 b2 b13 Δ0 (Typed.give s15) at21 (Relend.t-sl-relend 𝓤 H A W E (Referent.rtF (Referent.fInt Syntax.w32)) 𝓣 G16 12 17 8 11 y11 y1 (Row.lease (κs .1 .1 .1 .1 .1 .1 .1 .1 .0) (qs .1 .1 .1 .1 .1 .1 .1 .1 .0)) 0 (λ x. x) (Reads.as-is 𝓤 H A (Mut.mslice (Referent.rtF (Referent.fInt Syntax.w32)) y11 8)) (Reads.room-gone 𝓤 H A y1) Path'.refl tt Path'.refl Path'.refl Path'.refl λ b o. tt) d21
+          d22 : Typed.Typed 𝓤 H A 𝓣 E G29 b14 Δ0 at22
+          d22 = Typed.s-seq 𝓤 H A W 𝓣 E G29 G30 b10 b13 Δ0 (Typed.both s28) at21 (Plain.t-call-plain 𝓤 H A W 𝓣 11 ps·1 r·1 (claims· .2) (claims· .3) "messages::deliver" (known .1) E (λ pos β. β) G29 (record { pos = 1; st = List.[]; d = 0; at = λ x. x }, (Num.vAt 2 λ x. x, (record { pos = 20; ty = Syntax.tyRef Syntax.erased Syntax.mut S·Tally.behind; ref = λ x. x }, (record { pos = 4; ty = Syntax.tyRef (Syntax.named 0) Syntax.imm (Syntax.tyInt Syntax.w32); ref = λ x. x }, (record { pos = 22; ty = Syntax.tyRef Syntax.erased Syntax.imm S·Link.behind; ref = λ x. x }, (record { pos = 8; ty = Syntax.tyRef (Syntax.named 4) Syntax.imm (Syntax.tyInt Syntax.w16); ref = λ x. x }, (record { pos = 9; ty = Syntax.tyRef (Syntax.named 5) Syntax.imm (Syntax.tyInt Syntax.w16); ref = λ x. x }, (record { pos = 10; ty = Syntax.tyRef (Syntax.named 6) Syntax.imm (Syntax.tyInt Syntax.w16); ref = λ x. x }, (record { pos = 11; ty = Syntax.tyRef (Syntax.named 7) Syntax.imm (Syntax.tyInt Syntax.w32); ref = λ x. x }, (record { pos = 12; ty = Syntax.tyRef (Syntax.named 8) Syntax.imm (Syntax.tyInt Syntax.w32); ref = λ x. x }, (record { pos = 13; ty = Syntax.tyRef (Syntax.named 9) Syntax.imm (Syntax.tyInt Syntax.w16); ref = λ x. x }, (record { pos = 24; ty = Syntax.tyRef Syntax.erased Syntax.mut (Syntax.tyInt Syntax.w32); ref = λ x. x }, (record { pos = 26; ty = Syntax.tyRef Syntax.erased Syntax.mut (Syntax.tyInt Syntax.w32); ref = λ x. x }, tt))))))))))))) 19 (List._∷_ 12 (List._∷_ 0 (List._∷_ 13 (List._∷_ 4 (List._∷_ 5 (List._∷_ 6 (List._∷_ 7 (List._∷_ 8 (List._∷_ 9 (List._∷_ 14 (List._∷_ 15 List.[]))))))))))) (Call.sub-id 𝓤 H A W (G29 .slots)) ((Yields.yields-copy 𝓤 H A W (λ ρ. Unit) (Declared.row SheetHeld.the-type) Path'.refl (Copies.cStruct SheetHeld.the-type Laws.the-laws Laws.the-copy .copy 𝓤 H A W) (Rows'.whole (Declared.row SheetHeld.the-type)) (λ x. x) (λ x. x) (λ ρ told. Local.mem-whole 𝓤 H A W (Declared.row SheetHeld.the-type) ρ) λ ρ told. Local.whole-mem 𝓤 H A W (Declared.row SheetHeld.the-type) ρ, Path'.refl), ((Scalar.reads-sc 𝓤 H A W (Row.sInt Syntax.w64), Path'.refl), (Reads'.as-is 𝓤 H A (Rows'.mref S·Tally.R y0 12), Reads'.reads-mref 𝓤 H A W S·Tally.R y0 12, Path'.refl, (ShrSlice.spares-sslice 𝓤 H A W (Referent.rtF (Referent.fInt Syntax.w32)) y5 0, Shared.reads-sslice 𝓤 H A W (Referent.rtF (Referent.fInt Syntax.w32)) y5 0, Path'.refl, (ShrSlice.spares-sslice 𝓤 H A W S·Link.R y18 13, Shared.reads-sslice 𝓤 H A W S·Link.R y18 13, Path'.refl, (ShrSlice.spares-sslice 𝓤 H A W (Referent.rtF (Referent.fInt Syntax.w16)) y9 4, Shared.reads-sslice 𝓤 H A W (Referent.rtF (Referent.fInt Syntax.w16)) y9 4, Path'.refl, (ShrSlice.spares-sslice 𝓤 H A W (Referent.rtF (Referent.fInt Syntax.w16)) y10 5, Shared.reads-sslice 𝓤 H A W (Referent.rtF (Referent.fInt Syntax.w16)) y10 5, Path'.refl, (ShrSlice.spares-sslice 𝓤 H A W (Referent.rtF (Referent.fInt Syntax.w16)) y11 6, Shared.reads-sslice 𝓤 H A W (Referent.rtF (Referent.fInt Syntax.w16)) y11 6, Path'.refl, (ShrSlice.spares-sslice 𝓤 H A W (Referent.rtF (Referent.fInt Syntax.w32)) y12 7, Shared.reads-sslice 𝓤 H A W (Referent.rtF (Referent.fInt Syntax.w32)) y12 7, Path'.refl, (ShrSlice.spares-sslice 𝓤 H A W (Referent.rtF (Referent.fInt Syntax.w32)) y13 8, Shared.reads-sslice 𝓤 H A W (Referent.rtF (Referent.fInt Syntax.w32)) y13 8, Path'.refl, (ShrSlice.spares-sslice 𝓤 H A W (Referent.rtF (Referent.fInt Syntax.w16)) y14 9, Shared.reads-sslice 𝓤 H A W (Referent.rtF (Referent.fInt Syntax.w16)) y14 9, Path'.refl, (Reads'.as-is 𝓤 H A (Mut.mslice (Referent.rtF (Referent.fInt Syntax.w32)) y3 14), Mut.reads-mslice 𝓤 H A W (Referent.rtF (Referent.fInt Syntax.w32)) y3 14, Path'.refl, (Reads'.as-is 𝓤 H A (Mut.mslice (Referent.rtF (Referent.fInt Syntax.w32)) y3 15), Mut.reads-mslice 𝓤 H A W (Referent.rtF (Referent.fInt Syntax.w32)) y3 15, Path'.refl, tt))))))))))))) (Reads'.room-gone 𝓤 H A Syntax.tyUnit) (tt, (tt, (tt, (tt, (tt, (tt, (tt, (tt, (tt, (tt, (tt, tt))))))))))) Path'.refl) d21
 
-          d23 : Typed.Typed 𝓤 H A 𝓣 E G15 b14 Δ0 at23
-          d23 = Typed.g-pre 𝓤 H A W 𝓣 E G15 G16 b14 Δ0 (λ Ψ. Ψ) at22 (Lifetime.g-begin 𝓤 H A W E G15 11 (tt, (tt, (tt, (tt, (tt, (tt, (tt, (tt, (tt, (tt, (tt, (tt, (tt, (tt, (tt, (tt, (tt, (tt, (tt, (tt, (tt, tt)))))))))))))))))))))) d22
+          d23 : Typed.Typed 𝓤 H A 𝓣 E G28 b15 Δ0 at23
+          d23 = Typed.s-seq 𝓤 H A W 𝓣 E G28 G29 b9 b14 Δ0 (Typed.ask s27) at22 (Relend.t-sl-aggregate 𝓤 H A W E (Referent.rtF (Referent.fInt Syntax.w32)) 𝓣 (Relend.asMut (Referent.rtF (Referent.fInt Syntax.w32))) G28 25 26 15 y3 y3 (λ x. x) (Scalar.oFld 15 (List._∷_ (Syntax.field 1) List.[]) (Syntax.tyInt Syntax.w64) 8 λ v. Shared.lenV (v .0)) (Reads'.as-is 𝓤 H A (Relend.msptr (Referent.rtF (Referent.fInt Syntax.w32)) y3 15)) (Reads'.room-gone 𝓤 H A y4) (Relend.reads-owed-len 𝓤 H A W (Referent.rtF (Referent.fInt Syntax.w32)) y16 11 15 (Row.lease (κs .1 .1 .1 .1 .1 .1 .1 .1 .1 .1 .1 .0) (qs .1 .1 .1 .1 .1 .1 .1 .1 .1 .1 .1 .0)) 8 Path'.refl, Path'.refl) Path'.refl Path'.refl λ b o k. tt) d22
 
-          d24 : Typed.Typed 𝓤 H A 𝓣 E G14 b15 Δ0 at24
-          d24 = Typed.s-seq 𝓤 H A W 𝓣 E G14 G15 b1 b14 Δ0 (Typed.give s13) at23 (Local.t-sc-borrow 𝓤 H A W E 𝓣 G14 14 16 10 S·Tally.R y0 (λ x. x) (S·Tally.in-mem 𝓤 H A W) (Reads.room-gone 𝓤 H A y0) Path'.refl λ b o. tt) d23
+          d24 : Typed.Typed 𝓤 H A 𝓣 E G27 b16 Δ0 at24
+          d24 = Typed.s-seq 𝓤 H A W 𝓣 E G27 G28 b8 b15 Δ0 (Typed.give s26) at23 (Relend.t-sl-relend 𝓤 H A W E (Referent.rtF (Referent.fInt Syntax.w32)) 𝓣 G27 15 25 11 15 y16 y3 (Row.lease (κs .1 .1 .1 .1 .1 .1 .1 .1 .1 .1 .1 .0) (qs .1 .1 .1 .1 .1 .1 .1 .1 .1 .1 .1 .0)) 0 (λ x. x) (Reads'.as-is 𝓤 H A (Mut.mslice (Referent.rtF (Referent.fInt Syntax.w32)) y16 11)) (Reads'.room-gone 𝓤 H A y3) Path'.refl tt Path'.refl Path'.refl Path'.refl λ b o. tt) d23
 
-          d25 : Typed.Typed 𝓤 H A 𝓣 E G13 b15 Δ0 at25
-          d25 = Typed.g-pre 𝓤 H A W 𝓣 E G13 G14 b15 Δ0 (λ Ψ. Ψ) at24 (Lifetime.g-begin 𝓤 H A W E G13 10 (tt, (tt, (tt, (tt, (tt, (tt, (tt, (tt, (tt, (tt, (tt, (tt, (tt, (tt, (tt, (tt, (tt, (tt, (tt, (tt, (tt, tt)))))))))))))))))))))) d24
+          d25 : Typed.Typed 𝓤 H A 𝓣 E G26 b16 Δ0 at25
+          d25 = Typed.g-pre 𝓤 H A W 𝓣 E G26 G27 b16 Δ0 (λ Ψ. Ψ) at24 (Lifetime.g-begin 𝓤 H A W E G26 15 (tt, (tt, (tt, (tt, (tt, (tt, (tt, (tt, (tt, (tt, (tt, (tt, (tt, (tt, ((tt, tt), (tt, (tt, (tt, (tt, (tt, (tt, (tt, (tt, (tt, (tt, (tt, (tt, tt)))))))))))))))))))))))))))) d24
 
-          d26 : Typed.Typed 𝓤 H A 𝓣 E G12 b15 Δ0 at26
-          d26 = Typed.g-pre 𝓤 H A W 𝓣 E G12 G13 b15 Δ0 (Typed.pass T12 T13 s11) at25 (Scalar.g-room 𝓤 H A W E G12 3 S·Tally.laid (S·Tally.room 𝓤 H A W)) d25
+          d26 : Typed.Typed 𝓤 H A 𝓣 E G25 b17 Δ0 at26
+          d26 = Typed.s-seq 𝓤 H A W 𝓣 E G25 G26 b7 b16 Δ0 (Typed.ask s24) at25 (Relend.t-sl-aggregate 𝓤 H A W E (Referent.rtF (Referent.fInt Syntax.w32)) 𝓣 (Relend.asMut (Referent.rtF (Referent.fInt Syntax.w32))) G25 23 24 14 y3 y3 (λ x. x) (Scalar.oFld 14 (List._∷_ (Syntax.field 1) List.[]) (Syntax.tyInt Syntax.w64) 8 λ v. Shared.lenV (v .0)) (Reads'.as-is 𝓤 H A (Relend.msptr (Referent.rtF (Referent.fInt Syntax.w32)) y3 14)) (Reads'.room-gone 𝓤 H A y4) (Relend.reads-owed-len 𝓤 H A W (Referent.rtF (Referent.fInt Syntax.w32)) y15 10 14 (Row.lease (κs .1 .1 .1 .1 .1 .1 .1 .1 .1 .1 .0) (qs .1 .1 .1 .1 .1 .1 .1 .1 .1 .1 .0)) 8 Path'.refl, Path'.refl) Path'.refl Path'.refl λ b o k. tt) d25
 
-          d27 : Typed.Typed 𝓤 H A 𝓣 E G11 b16 Δ0 at27
-          d27 = Typed.s-seq 𝓤 H A W 𝓣 E G11 G12 b0 b15 Δ0 (Typed.pass T11 T12 s10) at26 (LocalCopy.t-val-copy 𝓤 H A W E 𝓣 (λ ρ. Unit) G11 3 14 S·Tally.R S·Tally.laid S·Tally.laid S·Tally.whole S·Tally.whole (λ x. x) (λ x. x) (λ x. x) Path'.refl (Own.told-none 𝓤 H A (G11 .slots)) (Yields.yields-copy 𝓤 H A W (λ ρ. Unit) S·Tally.R Path'.refl (S·Tally.copies .copy 𝓤 H A W) S·Tally.whole (λ x. x) (λ x. x) (λ ρ told. S·Tally.in-mem 𝓤 H A W ρ) λ ρ told. S·Tally.of-mem 𝓤 H A W ρ) (Reads.room-gone 𝓤 H A S·Tally.laid) (Yields.makes-mem 𝓤 H A W (λ ρ. Unit) S·Tally.R Path'.refl S·Tally.whole (λ x. x) λ ρ told. S·Tally.of-mem 𝓤 H A W ρ) Path'.refl Path'.refl) d26
+          d27 : Typed.Typed 𝓤 H A 𝓣 E G24 b18 Δ0 at27
+          d27 = Typed.s-seq 𝓤 H A W 𝓣 E G24 G25 b6 b17 Δ0 (Typed.give s23) at26 (Relend.t-sl-relend 𝓤 H A W E (Referent.rtF (Referent.fInt Syntax.w32)) 𝓣 G24 14 23 10 14 y15 y3 (Row.lease (κs .1 .1 .1 .1 .1 .1 .1 .1 .1 .1 .0) (qs .1 .1 .1 .1 .1 .1 .1 .1 .1 .1 .0)) 0 (λ x. x) (Reads'.as-is 𝓤 H A (Mut.mslice (Referent.rtF (Referent.fInt Syntax.w32)) y15 10)) (Reads'.room-gone 𝓤 H A y3) Path'.refl tt Path'.refl Path'.refl Path'.refl λ b o. tt) d26
 
-          d28 : Typed.Typed 𝓤 H A 𝓣 E G10 b16 Δ0 at28
-          d28 = Typed.g-pre 𝓤 H A W 𝓣 E G10 G11 b16 Δ0 (Typed.give s9) at27 (Know.g-sl-known 𝓤 H A W (Referent.fInt Syntax.w32) E G10 13 9 y12 (Row.lease (κs .1 .1 .1 .1 .1 .1 .1 .1 .1 .0) (qs .1 .1 .1 .1 .1 .1 .1 .1 .1 .0)) 0 (λ x. x) record { fits = Dec'.lit< tt } (Reads.as-is 𝓤 H A (Mut.mslice (Referent.rtF (Referent.fInt Syntax.w32)) y12 9)) Path'.refl tt) d27
+          d28 : Typed.Typed 𝓤 H A 𝓣 E G23 b18 Δ0 at28
+          d28 = Typed.g-pre 𝓤 H A W 𝓣 E G23 G24 b18 Δ0 (λ Ψ. Ψ) at27 (Lifetime.g-begin 𝓤 H A W E G23 14 (tt, (tt, (tt, (tt, (tt, (tt, (tt, (tt, (tt, (tt, (tt, (tt, (tt, (tt, (tt, (tt, (tt, (tt, (tt, (tt, (tt, (tt, (tt, (tt, (tt, (tt, (tt, tt)))))))))))))))))))))))))))) d27
 
-          d29 : Typed.Typed 𝓤 H A 𝓣 E G9 b16 Δ0 at29
-          d29 = Typed.g-pre 𝓤 H A W 𝓣 E G9 G10 b16 Δ0 (Typed.give s8) at28 (Know.g-sl-known 𝓤 H A W (Referent.fInt Syntax.w32) E G9 12 8 y11 (Row.lease (κs .1 .1 .1 .1 .1 .1 .1 .1 .0) (qs .1 .1 .1 .1 .1 .1 .1 .1 .0)) 0 (λ x. x) record { fits = Dec'.lit< tt } (Reads.as-is 𝓤 H A (Mut.mslice (Referent.rtF (Referent.fInt Syntax.w32)) y11 8)) Path'.refl tt) d28
+          d29 : Typed.Typed 𝓤 H A 𝓣 E G22 b19 Δ0 at29
+          d29 = Typed.s-seq 𝓤 H A W 𝓣 E G22 G23 b5 b18 Δ0 (Typed.ask s21) at28 (Relend.t-sl-aggregate 𝓤 H A W E S·Link.R 𝓣 (Relend.asShr S·Link.R) G22 21 22 13 y1 y18 (λ x. x) (Scalar.oInt Syntax.w64 512) (Reads'.as-is 𝓤 H A (Relend.ssptr S·Link.R y1 13)) (Reads'.room-gone 𝓤 H A y2) tt Path'.refl Path'.refl λ b o k. tt) d28
 
-          d30 : Typed.Typed 𝓤 H A 𝓣 E G8 b16 Δ0 at30
-          d30 = Typed.g-pre 𝓤 H A W 𝓣 E G8 G9 b16 Δ0 (Typed.give s7) at29 (Know.g-shs-known 𝓤 H A W (Referent.fInt Syntax.w16) E G8 11 7 y10 (Row.lease (κs .1 .1 .1 .1 .1 .1 .1 .0) (qs .1 .1 .1 .1 .1 .1 .1 .0)) 0 (λ x. x) record { fits = Dec'.lit< tt } (Reads.as-is 𝓤 H A (Rows'.sslice (Referent.rtF (Referent.fInt Syntax.w16)) y10 7)) Path'.refl tt) d29
+          d30 : Typed.Typed 𝓤 H A 𝓣 E G21 b20 Δ0 at30
+          d30 = Typed.s-seq 𝓤 H A W 𝓣 E G21 G22 b4 b19 Δ0 (Typed.give s20) at29 (Share.t-arr-share 𝓤 H A W E 𝓣 S·Link.R G21 16 21 512 13 y1 (λ x. x) (Reads'.as-is 𝓤 H A (Rows.arrF S·Link.R 512 0)) (Reads'.room-gone 𝓤 H A y1) Path'.refl (λ b o. tt) (Dec'.lit< tt, Dec'.lit< tt)) d29
 
-          d31 : Typed.Typed 𝓤 H A 𝓣 E G7 b16 Δ0 at31
-          d31 = Typed.g-pre 𝓤 H A W 𝓣 E G7 G8 b16 Δ0 (Typed.give s6) at30 (Know.g-shs-known 𝓤 H A W (Referent.fInt Syntax.w32) E G7 10 6 y9 (Row.lease (κs .1 .1 .1 .1 .1 .1 .0) (qs .1 .1 .1 .1 .1 .1 .0)) 0 (λ x. x) record { fits = Dec'.lit< tt } (Reads.as-is 𝓤 H A (Rows'.sslice (Referent.rtF (Referent.fInt Syntax.w32)) y9 6)) Path'.refl tt) d30
+          d31 : Typed.Typed 𝓤 H A 𝓣 E G20 b20 Δ0 at31
+          d31 = Typed.g-pre 𝓤 H A W 𝓣 E G20 G21 b20 Δ0 (λ Ψ. Ψ) at30 (Lifetime.g-begin 𝓤 H A W E G20 13 (tt, (tt, (tt, (tt, (tt, (tt, (tt, (tt, (tt, (tt, (tt, (tt, (tt, (tt, (tt, (tt, (tt, (tt, (tt, (tt, (tt, (tt, (tt, (tt, (tt, (tt, (tt, tt)))))))))))))))))))))))))))) d30
 
-          d32 : Typed.Typed 𝓤 H A 𝓣 E G6 b16 Δ0 at32
-          d32 = Typed.g-pre 𝓤 H A W 𝓣 E G6 G7 b16 Δ0 (Typed.give s5) at31 (Know.g-shs-known 𝓤 H A W (Referent.fInt Syntax.w32) E G6 9 5 y8 (Row.lease (κs .1 .1 .1 .1 .1 .0) (qs .1 .1 .1 .1 .1 .0)) 0 (λ x. x) record { fits = Dec'.lit< tt } (Reads.as-is 𝓤 H A (Rows'.sslice (Referent.rtF (Referent.fInt Syntax.w32)) y8 5)) Path'.refl tt) d31
+          d32 : Typed.Typed 𝓤 H A 𝓣 E G19 b21 Δ0 at32
+          d32 = Typed.s-seq 𝓤 H A W 𝓣 E G19 G20 b3 b20 Δ0 (Typed.give s18) at31 (Local.t-sc-borrow 𝓤 H A W E 𝓣 G19 17 20 12 S·Tally.R y0 (λ x. x) (S·Tally.in-mem 𝓤 H A W) (Reads'.room-gone 𝓤 H A y0) Path'.refl λ b o. tt) d31
 
-          d33 : Typed.Typed 𝓤 H A 𝓣 E G5 b16 Δ0 at33
-          d33 = Typed.g-pre 𝓤 H A W 𝓣 E G5 G6 b16 Δ0 (Typed.give s4) at32 (Know.g-shs-known 𝓤 H A W (Referent.fInt Syntax.w16) E G5 8 4 y7 (Row.lease (κs .1 .1 .1 .1 .0) (qs .1 .1 .1 .1 .0)) 0 (λ x. x) record { fits = Dec'.lit< tt } (Reads.as-is 𝓤 H A (Rows'.sslice (Referent.rtF (Referent.fInt Syntax.w16)) y7 4)) Path'.refl tt) d32
+          d33 : Typed.Typed 𝓤 H A 𝓣 E G18 b21 Δ0 at33
+          d33 = Typed.g-pre 𝓤 H A W 𝓣 E G18 G19 b21 Δ0 (λ Ψ. Ψ) at32 (Lifetime.g-begin 𝓤 H A W E G18 12 (tt, (tt, (tt, (tt, (tt, (tt, (tt, (tt, (tt, (tt, (tt, (tt, (tt, (tt, (tt, (tt, (tt, (tt, (tt, (tt, (tt, (tt, (tt, (tt, (tt, (tt, (tt, tt)))))))))))))))))))))))))))) d32
 
-          d34 : Typed.Typed 𝓤 H A 𝓣 E G4 b16 Δ0 at34
-          d34 = Typed.g-pre 𝓤 H A W 𝓣 E G4 G5 b16 Δ0 (Typed.give s3) at33 (Know.g-shs-known 𝓤 H A W (Referent.fInt Syntax.w16) E G4 7 3 y6 (Row.lease (κs .1 .1 .1 .0) (qs .1 .1 .1 .0)) 0 (λ x. x) record { fits = Dec'.lit< tt } (Reads.as-is 𝓤 H A (Rows'.sslice (Referent.rtF (Referent.fInt Syntax.w16)) y6 3)) Path'.refl tt) d33
+          d34 : Typed.Typed 𝓤 H A 𝓣 E G17 b21 Δ0 at34
+          d34 = Typed.g-pre 𝓤 H A W 𝓣 E G17 G18 b21 Δ0 (Typed.pass T17 T18 s16) at33 (Scalar.g-room 𝓤 H A W E G17 3 S·Tally.laid (S·Tally.room 𝓤 H A W)) d33
 
-          d35 : Typed.Typed 𝓤 H A 𝓣 E G3 b16 Δ0 at35
-          d35 = Typed.g-pre 𝓤 H A W 𝓣 E G3 G4 b16 Δ0 (Typed.give s2) at34 (Know.g-shs-known 𝓤 H A W (Referent.fInt Syntax.w16) E G3 6 2 y5 (Row.lease (κs .1 .1 .0) (qs .1 .1 .0)) 0 (λ x. x) record { fits = Dec'.lit< tt } (Reads.as-is 𝓤 H A (Rows'.sslice (Referent.rtF (Referent.fInt Syntax.w16)) y5 2)) Path'.refl tt) d34
+          d35 : Typed.Typed 𝓤 H A 𝓣 E G16 b22 Δ0 at35
+          d35 = Typed.s-seq 𝓤 H A W 𝓣 E G16 G17 b2 b21 Δ0 (Typed.pass T16 T17 s15) at34 (LocalCopy.t-val-copy 𝓤 H A W E 𝓣 (λ ρ. Unit) G16 3 17 S·Tally.R S·Tally.laid S·Tally.laid S·Tally.whole S·Tally.whole (λ x. x) (λ x. x) (λ x. x) Path'.refl (Own.told-none 𝓤 H A (G16 .slots)) (Yields.yields-copy 𝓤 H A W (λ ρ. Unit) S·Tally.R Path'.refl (S·Tally.copies .copy 𝓤 H A W) S·Tally.whole (λ x. x) (λ x. x) (λ ρ told. S·Tally.in-mem 𝓤 H A W ρ) λ ρ told. S·Tally.of-mem 𝓤 H A W ρ) (Reads'.room-gone 𝓤 H A S·Tally.laid) (Yields.makes-mem 𝓤 H A W (λ ρ. Unit) S·Tally.R Path'.refl S·Tally.whole (λ x. x) λ ρ told. S·Tally.of-mem 𝓤 H A W ρ) Path'.refl Path'.refl) d34
 
-          d36 : Typed.Typed 𝓤 H A 𝓣 E G2 b16 Δ0 at36
-          d36 = Typed.g-pre 𝓤 H A W 𝓣 E G2 G3 b16 Δ0 (Typed.give s1) at35 (Know.g-shs-known 𝓤 H A W (Referent.fInt Syntax.w8) E G2 5 1 y4 (Row.lease (κs .1 .0) (qs .1 .0)) 0 (λ x. x) record { fits = Dec'.lit< tt } (Reads.as-is 𝓤 H A (Rows'.sslice (Referent.rtF (Referent.fInt Syntax.w8)) y4 1)) Path'.refl tt) d35
+          d36 : Typed.Typed 𝓤 H A 𝓣 E G15 b22 Δ0 at36
+          d36 = Typed.g-pre 𝓤 H A W 𝓣 E G15 G16 b22 Δ0 (Typed.pass T15 T16 s14) at35 (Scalar.g-room 𝓤 H A W E G15 18 (Syntax.tyArray S·Link.laid 512) (Init.room-arr 𝓤 H A W S·Link.R 512 0 512 Path'.refl)) d35
 
-          d37 : Typed.Typed 𝓤 H A 𝓣 E G0 b16 Δ0 at37
-          d37 = Typed.g-pre 𝓤 H A W 𝓣 E G0 G2 b16 Δ0 (Typed.give s0) at36 (Know.g-shs-known 𝓤 H A W (Referent.fInt Syntax.w32) E G0 4 0 y3 (Row.lease (κs .0) (qs .0)) 0 (λ x. x) record { fits = Dec'.lit< tt } (Reads.as-is 𝓤 H A (Rows'.sslice (Referent.rtF (Referent.fInt Syntax.w32)) y3 0)) Path'.refl tt) d36
+          d37 : Typed.Typed 𝓤 H A 𝓣 E G14 b23 Δ0 at37
+          d37 = Typed.s-seq 𝓤 H A W 𝓣 E G14 G15 b1 b22 Δ0 (Typed.pass T14 T15 s13) at36 (LocalCopy.t-val-copy 𝓤 H A W E 𝓣 (λ ρ. Unit) G14 18 16 (Array'.Array S·Link.R 512) (Syntax.tyArray S·Link.laid 512) (Syntax.tyArray S·Link.laid 512) (Rows.arrF S·Link.R 512 0) (Rows.arrF S·Link.R 512 0) (λ x. x) (λ x. x) (λ x. x) Path'.refl (Own.told-none 𝓤 H A (G14 .slots)) (Yields.yields-copy 𝓤 H A W (λ ρ. Unit) (Array'.Array S·Link.R 512) Path'.refl (Copies.cArr S·Link.R S·Link.copies 512 .copy 𝓤 H A W) (Rows.arrF S·Link.R 512 0) (λ x. x) (λ x. x) (λ ρ told. Whole.mem-arr 𝓤 H A W S·Link.R 512 ρ) λ ρ told. Whole.arr-mem 𝓤 H A W S·Link.R 512 tt ρ) (Reads'.room-gone 𝓤 H A (Syntax.tyArray S·Link.laid 512)) (Yields.makes-mem 𝓤 H A W (λ ρ. Unit) (Array'.Array S·Link.R 512) Path'.refl (Rows.arrF S·Link.R 512 0) (λ x. x) λ ρ told. Whole.arr-mem 𝓤 H A W S·Link.R 512 tt ρ) Path'.refl Path'.refl) d36
 
-          pub typed : Typed.Typed 𝓤 H A 𝓣 E (Function.Γin 10 ps r xs m κs qs) b16 (Function.Δret 10 ps r xs m κs qs) Φ
-          typed = d37
+          d38 : Typed.Typed 𝓤 H A 𝓣 E G13 b24 Δ0 at38
+          d38 = Typed.s-seq 𝓤 H A W 𝓣 E G13 G14 b0 b23 Δ0 (Typed.both s12) at37 (Plain.t-call-plain 𝓤 H A W 𝓣 4 ps·0 r·0 (claims· .0) (claims· .1) "links::list" (known .0) E (λ pos β. β) G13 (Num.vFld 1 (List._∷_ (Syntax.field 1) List.[]) 8 λ x. SheetHeld.struct .as-values x .1 .0, (record { pos = 5; ty = Syntax.tyRef (Syntax.named 1) Syntax.imm (Syntax.tyInt Syntax.w8); ref = λ x. x }, (record { pos = 6; ty = Syntax.tyRef (Syntax.named 2) Syntax.imm (Syntax.tyInt Syntax.w8); ref = λ x. x }, (record { pos = 7; ty = Syntax.tyRef (Syntax.named 3) Syntax.imm (Syntax.tyInt Syntax.w8); ref = λ x. x }, (record { pos = 12; ty = Syntax.tyRef (Syntax.named 8) Syntax.imm (Syntax.tyInt Syntax.w32); ref = λ x. x }, tt))))) 18 (List._∷_ 1 (List._∷_ 2 (List._∷_ 3 (List._∷_ 8 List.[])))) (Call.sub-id 𝓤 H A W (G13 .slots)) ((Reads.reads-field 𝓤 H A W SheetHeld.the-type Laws.the-laws 1 (Syntax.tyInt Syntax.w64) 8 Path'.refl, Path'.refl), (ShrSlice.spares-sslice 𝓤 H A W (Referent.rtF (Referent.fInt Syntax.w8)) y6 1, Shared.reads-sslice 𝓤 H A W (Referent.rtF (Referent.fInt Syntax.w8)) y6 1, Path'.refl, (ShrSlice.spares-sslice 𝓤 H A W (Referent.rtF (Referent.fInt Syntax.w8)) y7 2, Shared.reads-sslice 𝓤 H A W (Referent.rtF (Referent.fInt Syntax.w8)) y7 2, Path'.refl, (ShrSlice.spares-sslice 𝓤 H A W (Referent.rtF (Referent.fInt Syntax.w8)) y8 3, Shared.reads-sslice 𝓤 H A W (Referent.rtF (Referent.fInt Syntax.w8)) y8 3, Path'.refl, (ShrSlice.spares-sslice 𝓤 H A W (Referent.rtF (Referent.fInt Syntax.w32)) y13 8, Shared.reads-sslice 𝓤 H A W (Referent.rtF (Referent.fInt Syntax.w32)) y13 8, Path'.refl, tt))))) (Reads'.room-gone 𝓤 H A (Syntax.tyArray S·Link.laid 512)) (tt, (tt, (tt, (tt, tt)))) Path'.refl) d37
 
-      module _ (κs : Lifetimes.Lfts 10) where
+          d39 : Typed.Typed 𝓤 H A 𝓣 E G12 b24 Δ0 at39
+          d39 = Typed.g-pre 𝓤 H A W 𝓣 E G12 G13 b24 Δ0 (Typed.give s11) at38 (Know.g-sl-known 𝓤 H A W (Referent.fInt Syntax.w32) E G12 15 11 y16 (Row.lease (κs .1 .1 .1 .1 .1 .1 .1 .1 .1 .1 .1 .0) (qs .1 .1 .1 .1 .1 .1 .1 .1 .1 .1 .1 .0)) 0 (λ x. x) record { fits = Dec'.lit< tt } (Reads'.as-is 𝓤 H A (Mut.mslice (Referent.rtF (Referent.fInt Syntax.w32)) y16 11)) Path'.refl tt) d38
+
+          d40 : Typed.Typed 𝓤 H A 𝓣 E G11 b24 Δ0 at40
+          d40 = Typed.g-pre 𝓤 H A W 𝓣 E G11 G12 b24 Δ0 (Typed.give s10) at39 (Know.g-sl-known 𝓤 H A W (Referent.fInt Syntax.w32) E G11 14 10 y15 (Row.lease (κs .1 .1 .1 .1 .1 .1 .1 .1 .1 .1 .0) (qs .1 .1 .1 .1 .1 .1 .1 .1 .1 .1 .0)) 0 (λ x. x) record { fits = Dec'.lit< tt } (Reads'.as-is 𝓤 H A (Mut.mslice (Referent.rtF (Referent.fInt Syntax.w32)) y15 10)) Path'.refl tt) d39
+
+          d41 : Typed.Typed 𝓤 H A 𝓣 E G10 b24 Δ0 at41
+          d41 = Typed.g-pre 𝓤 H A W 𝓣 E G10 G11 b24 Δ0 (Typed.give s9) at40 (Know.g-shs-known 𝓤 H A W (Referent.fInt Syntax.w16) E G10 13 9 y14 (Row.lease (κs .1 .1 .1 .1 .1 .1 .1 .1 .1 .0) (qs .1 .1 .1 .1 .1 .1 .1 .1 .1 .0)) 0 (λ x. x) record { fits = Dec'.lit< tt } (Reads'.as-is 𝓤 H A (Rows'.sslice (Referent.rtF (Referent.fInt Syntax.w16)) y14 9)) Path'.refl tt) d40
+
+          d42 : Typed.Typed 𝓤 H A 𝓣 E G9 b24 Δ0 at42
+          d42 = Typed.g-pre 𝓤 H A W 𝓣 E G9 G10 b24 Δ0 (Typed.give s8) at41 (Know.g-shs-known 𝓤 H A W (Referent.fInt Syntax.w32) E G9 12 8 y13 (Row.lease (κs .1 .1 .1 .1 .1 .1 .1 .1 .0) (qs .1 .1 .1 .1 .1 .1 .1 .1 .0)) 0 (λ x. x) record { fits = Dec'.lit< tt } (Reads'.as-is 𝓤 H A (Rows'.sslice (Referent.rtF (Referent.fInt Syntax.w32)) y13 8)) Path'.refl tt) d41
+
+          d43 : Typed.Typed 𝓤 H A 𝓣 E G8 b24 Δ0 at43
+          d43 = Typed.g-pre 𝓤 H A W 𝓣 E G8 G9 b24 Δ0 (Typed.give s7) at42 (Know.g-shs-known 𝓤 H A W (Referent.fInt Syntax.w32) E G8 11 7 y12 (Row.lease (κs .1 .1 .1 .1 .1 .1 .1 .0) (qs .1 .1 .1 .1 .1 .1 .1 .0)) 0 (λ x. x) record { fits = Dec'.lit< tt } (Reads'.as-is 𝓤 H A (Rows'.sslice (Referent.rtF (Referent.fInt Syntax.w32)) y12 7)) Path'.refl tt) d42
+
+          d44 : Typed.Typed 𝓤 H A 𝓣 E G7 b24 Δ0 at44
+          d44 = Typed.g-pre 𝓤 H A W 𝓣 E G7 G8 b24 Δ0 (Typed.give s6) at43 (Know.g-shs-known 𝓤 H A W (Referent.fInt Syntax.w16) E G7 10 6 y11 (Row.lease (κs .1 .1 .1 .1 .1 .1 .0) (qs .1 .1 .1 .1 .1 .1 .0)) 0 (λ x. x) record { fits = Dec'.lit< tt } (Reads'.as-is 𝓤 H A (Rows'.sslice (Referent.rtF (Referent.fInt Syntax.w16)) y11 6)) Path'.refl tt) d43
+
+          d45 : Typed.Typed 𝓤 H A 𝓣 E G6 b24 Δ0 at45
+          d45 = Typed.g-pre 𝓤 H A W 𝓣 E G6 G7 b24 Δ0 (Typed.give s5) at44 (Know.g-shs-known 𝓤 H A W (Referent.fInt Syntax.w16) E G6 9 5 y10 (Row.lease (κs .1 .1 .1 .1 .1 .0) (qs .1 .1 .1 .1 .1 .0)) 0 (λ x. x) record { fits = Dec'.lit< tt } (Reads'.as-is 𝓤 H A (Rows'.sslice (Referent.rtF (Referent.fInt Syntax.w16)) y10 5)) Path'.refl tt) d44
+
+          d46 : Typed.Typed 𝓤 H A 𝓣 E G5 b24 Δ0 at46
+          d46 = Typed.g-pre 𝓤 H A W 𝓣 E G5 G6 b24 Δ0 (Typed.give s4) at45 (Know.g-shs-known 𝓤 H A W (Referent.fInt Syntax.w16) E G5 8 4 y9 (Row.lease (κs .1 .1 .1 .1 .0) (qs .1 .1 .1 .1 .0)) 0 (λ x. x) record { fits = Dec'.lit< tt } (Reads'.as-is 𝓤 H A (Rows'.sslice (Referent.rtF (Referent.fInt Syntax.w16)) y9 4)) Path'.refl tt) d45
+
+          d47 : Typed.Typed 𝓤 H A 𝓣 E G4 b24 Δ0 at47
+          d47 = Typed.g-pre 𝓤 H A W 𝓣 E G4 G5 b24 Δ0 (Typed.give s3) at46 (Know.g-shs-known 𝓤 H A W (Referent.fInt Syntax.w8) E G4 7 3 y8 (Row.lease (κs .1 .1 .1 .0) (qs .1 .1 .1 .0)) 0 (λ x. x) record { fits = Dec'.lit< tt } (Reads'.as-is 𝓤 H A (Rows'.sslice (Referent.rtF (Referent.fInt Syntax.w8)) y8 3)) Path'.refl tt) d46
+
+          d48 : Typed.Typed 𝓤 H A 𝓣 E G3 b24 Δ0 at48
+          d48 = Typed.g-pre 𝓤 H A W 𝓣 E G3 G4 b24 Δ0 (Typed.give s2) at47 (Know.g-shs-known 𝓤 H A W (Referent.fInt Syntax.w8) E G3 6 2 y7 (Row.lease (κs .1 .1 .0) (qs .1 .1 .0)) 0 (λ x. x) record { fits = Dec'.lit< tt } (Reads'.as-is 𝓤 H A (Rows'.sslice (Referent.rtF (Referent.fInt Syntax.w8)) y7 2)) Path'.refl tt) d47
+
+          d49 : Typed.Typed 𝓤 H A 𝓣 E G2 b24 Δ0 at49
+          d49 = Typed.g-pre 𝓤 H A W 𝓣 E G2 G3 b24 Δ0 (Typed.give s1) at48 (Know.g-shs-known 𝓤 H A W (Referent.fInt Syntax.w8) E G2 5 1 y6 (Row.lease (κs .1 .0) (qs .1 .0)) 0 (λ x. x) record { fits = Dec'.lit< tt } (Reads'.as-is 𝓤 H A (Rows'.sslice (Referent.rtF (Referent.fInt Syntax.w8)) y6 1)) Path'.refl tt) d48
+
+          d50 : Typed.Typed 𝓤 H A 𝓣 E G0 b24 Δ0 at50
+          d50 = Typed.g-pre 𝓤 H A W 𝓣 E G0 G2 b24 Δ0 (Typed.give s0) at49 (Know.g-shs-known 𝓤 H A W (Referent.fInt Syntax.w32) E G0 4 0 y5 (Row.lease (κs .0) (qs .0)) 0 (λ x. x) record { fits = Dec'.lit< tt } (Reads'.as-is 𝓤 H A (Rows'.sslice (Referent.rtF (Referent.fInt Syntax.w32)) y5 0)) Path'.refl tt) d49
+
+          pub typed : Typed.Typed 𝓤 H A 𝓣 E (Function.Γin 12 ps r xs m κs qs) b24 (Function.Δret 12 ps r xs m κs qs) Φ
+          typed = d50
+
+      module _ (κs : Lifetimes.Lfts 12) where
         pub record Args : Type 0 where
-          pub h : Kinds.Den {n = 10} κs (Value.pVal record { ty = Declared.row SheetHeld.the-type; one = Path'.refl; val = Laws'.val SheetHeld.the-type Laws.the-laws; tells = Laws'.tells SheetHeld.the-type Laws.the-laws; still = Laws'.still SheetHeld.the-type Laws.the-copy Exit.yes; row = Rows'.whole (Declared.row SheetHeld.the-type); rd = λ x. x; mk = λ x. x } λ M 𝓤 H A W. record { copies = Laws'.copy SheetHeld.the-type Laws.the-copy 𝓤 H A W; lawful = Laws'.lawful SheetHeld.the-type Laws.the-laws 𝓤 H A W; makes = Laws'.makes SheetHeld.the-type Laws.the-plain 𝓤 H A; in-mem = Local.mem-whole 𝓤 H A W (Declared.row SheetHeld.the-type); of-mem = Local.whole-mem 𝓤 H A W (Declared.row SheetHeld.the-type) })
-          pub j : Kinds.Den {n = 10} κs (Num.pNum Syntax.w64)
-          pub t : Kinds.Den {n = 10} κs S·Tally.param
-          pub traffic : Kinds.Den {n = 10} κs (ShrSlice.pShrS (Referent.rtF (Referent.fInt Syntax.w32)) 0 tt)
-          pub from : Kinds.Den {n = 10} κs (ShrSlice.pShrS (Referent.rtF (Referent.fInt Syntax.w8)) 1 tt)
-          pub starts : Kinds.Den {n = 10} κs (ShrSlice.pShrS (Referent.rtF (Referent.fInt Syntax.w16)) 2 tt)
-          pub flow-starts : Kinds.Den {n = 10} κs (ShrSlice.pShrS (Referent.rtF (Referent.fInt Syntax.w16)) 3 tt)
-          pub flow : Kinds.Den {n = 10} κs (ShrSlice.pShrS (Referent.rtF (Referent.fInt Syntax.w16)) 4 tt)
-          pub line : Kinds.Den {n = 10} κs (ShrSlice.pShrS (Referent.rtF (Referent.fInt Syntax.w32)) 5 tt)
-          pub fraction : Kinds.Den {n = 10} κs (ShrSlice.pShrS (Referent.rtF (Referent.fInt Syntax.w32)) 6 tt)
-          pub opposite : Kinds.Den {n = 10} κs (ShrSlice.pShrS (Referent.rtF (Referent.fInt Syntax.w16)) 7 tt)
-          pub inbox : Kinds.Den {n = 10} κs (MutSlice.pMutS (Referent.rtF (Referent.fInt Syntax.w32)) 8 tt)
-          pub quiet : Kinds.Den {n = 10} κs (MutSlice.pMutS (Referent.rtF (Referent.fInt Syntax.w32)) 9 tt)
+          pub h : Kinds.Den {n = 12} κs (Value.pVal record { ty = Declared.row SheetHeld.the-type; one = Path'.refl; val = Laws'.val SheetHeld.the-type Laws.the-laws; tells = Laws'.tells SheetHeld.the-type Laws.the-laws; still = Laws'.still SheetHeld.the-type Laws.the-copy Exit.yes; row = Rows'.whole (Declared.row SheetHeld.the-type); rd = λ x. x; mk = λ x. x } λ M 𝓤 H A W. record { copies = Laws'.copy SheetHeld.the-type Laws.the-copy 𝓤 H A W; lawful = Laws'.lawful SheetHeld.the-type Laws.the-laws 𝓤 H A W; makes = Laws'.makes SheetHeld.the-type Laws.the-plain 𝓤 H A; in-mem = Local.mem-whole 𝓤 H A W (Declared.row SheetHeld.the-type); of-mem = Local.whole-mem 𝓤 H A W (Declared.row SheetHeld.the-type) })
+          pub j : Kinds.Den {n = 12} κs (Num.pNum Syntax.w64)
+          pub t : Kinds.Den {n = 12} κs S·Tally.param
+          pub traffic : Kinds.Den {n = 12} κs (ShrSlice.pShrS (Referent.rtF (Referent.fInt Syntax.w32)) 0 tt)
+          pub from : Kinds.Den {n = 12} κs (ShrSlice.pShrS (Referent.rtF (Referent.fInt Syntax.w8)) 1 tt)
+          pub to : Kinds.Den {n = 12} κs (ShrSlice.pShrS (Referent.rtF (Referent.fInt Syntax.w8)) 2 tt)
+          pub load : Kinds.Den {n = 12} κs (ShrSlice.pShrS (Referent.rtF (Referent.fInt Syntax.w8)) 3 tt)
+          pub starts : Kinds.Den {n = 12} κs (ShrSlice.pShrS (Referent.rtF (Referent.fInt Syntax.w16)) 4 tt)
+          pub flow-starts : Kinds.Den {n = 12} κs (ShrSlice.pShrS (Referent.rtF (Referent.fInt Syntax.w16)) 5 tt)
+          pub flow : Kinds.Den {n = 12} κs (ShrSlice.pShrS (Referent.rtF (Referent.fInt Syntax.w16)) 6 tt)
+          pub line : Kinds.Den {n = 12} κs (ShrSlice.pShrS (Referent.rtF (Referent.fInt Syntax.w32)) 7 tt)
+          pub fraction : Kinds.Den {n = 12} κs (ShrSlice.pShrS (Referent.rtF (Referent.fInt Syntax.w32)) 8 tt)
+          pub opposite : Kinds.Den {n = 12} κs (ShrSlice.pShrS (Referent.rtF (Referent.fInt Syntax.w16)) 9 tt)
+          pub inbox : Kinds.Den {n = 12} κs (MutSlice.pMutS (Referent.rtF (Referent.fInt Syntax.w32)) 10 tt)
+          pub quiet : Kinds.Den {n = 12} κs (MutSlice.pMutS (Referent.rtF (Referent.fInt Syntax.w32)) 11 tt)
 
         abbrev pub dens : (a : Args) → Kinds.Dens κs ps
-        dens = λ a. (a .h, (a .j, (a .t, (a .traffic, (a .from, (a .starts, (a .flow-starts, (a .flow, (a .line, (a .fraction, (a .opposite, (a .inbox, (a .quiet, tt)))))))))))))
+        dens = λ a. (a .h, (a .j, (a .t, (a .traffic, (a .from, (a .to, (a .load, (a .starts, (a .flow-starts, (a .flow, (a .line, (a .fraction, (a .opposite, (a .inbox, (a .quiet, tt)))))))))))))))
 
         module _ (args· : Args) where
           pub record Ranges : Type 0 where
             pub j : Val.Fits Syntax.w64 (args· .j)
 
-      abbrev pub m0 : (κs : Lifetimes.Lfts 10) → (args : Args κs) → Typed.Mo T0
+      abbrev pub m0 : (κs : Lifetimes.Lfts 12) → (args : Args κs) → Typed.Mo T0
       m0 = λ κs args. (tt, Enter.partsP κs 1 ps xs (dens κs args))
 
-      abbrev W0 : (κs : Lifetimes.Lfts 10) → (args : Args κs) → Typed.Want O0
-      W0 = λ κs args. (λ u. ⊥, tt, λ u. Enter.Fixs κs 1 ps xs (dens κs args) (u .1) × Post· κs (dens κs args) (Function.resV r κs (u .0)) (Clauses.atExit (Kinds.endedOf 10 ps r) κs (dens κs args) (Enter.lastsP κs 1 ps xs (dens κs args) (u .1))))
+      abbrev W0 : (κs : Lifetimes.Lfts 12) → (args : Args κs) → Typed.Want O0
+      W0 = λ κs args. (λ u. ⊥, tt, λ u. Enter.Fixs κs 1 ps xs (dens κs args) (u .1) × Post· κs (dens κs args) (Function.resV r κs (u .0)) (Clauses.atExit (Kinds.endedOf 12 ps r) κs (dens κs args) (Enter.lastsP κs 1 ps xs (dens κs args) (u .1))))
 
       pub record Start : Type 0 where
-        pub κs : Lifetimes.Lfts 10
+        pub κs : Lifetimes.Lfts 12
         pub args : Args κs
         pub good : Kinds.GoodsP κs ps (dens κs args)
         pub fits : Ranges κs args
@@ -1057,168 +1334,242 @@ module _ (claims· : Claims) where
       m9 = λ before given. s8 .next (m8 (before .before) (before .shared-slice-known8 .given)) given
 
       module _ (before· : After-shared-slice-known8) where
-        pub record After-slice-known·own : Type 0 where
+        pub record After-shared-slice-known9·own : Type 0 where
           pub given : s8 .gives (m8 (before· .before) (before· .shared-slice-known8 .given))
 
-      pub record After-slice-known : Type 0 where
+      pub record After-shared-slice-known9 : Type 0 where
         pub before : After-shared-slice-known8
+        pub shared-slice-known9 : After-shared-slice-known9·own before
+
+      abbrev pub m10 : (before : After-shared-slice-known9) → (given : s9 .gives (m9 (before .before) (before .shared-slice-known9 .given))) → Typed.Mo T11
+      m10 = λ before given. s9 .next (m9 (before .before) (before .shared-slice-known9 .given)) given
+
+      module _ (before· : After-shared-slice-known9) where
+        pub record After-shared-slice-known10·own : Type 0 where
+          pub given : s9 .gives (m9 (before· .before) (before· .shared-slice-known9 .given))
+
+      pub record After-shared-slice-known10 : Type 0 where
+        pub before : After-shared-slice-known9
+        pub shared-slice-known10 : After-shared-slice-known10·own before
+
+      abbrev pub m11 : (before : After-shared-slice-known10) → (given : s10 .gives (m10 (before .before) (before .shared-slice-known10 .given))) → Typed.Mo T12
+      m11 = λ before given. s10 .next (m10 (before .before) (before .shared-slice-known10 .given)) given
+
+      module _ (before· : After-shared-slice-known10) where
+        pub record After-slice-known·own : Type 0 where
+          pub given : s10 .gives (m10 (before· .before) (before· .shared-slice-known10 .given))
+
+      pub record After-slice-known : Type 0 where
+        pub before : After-shared-slice-known10
         pub slice-known : After-slice-known·own before
 
-      abbrev pub m10 : (before : After-slice-known) → (given : s9 .gives (m9 (before .before) (before .slice-known .given))) → Typed.Mo T11
-      m10 = λ before given. s9 .next (m9 (before .before) (before .slice-known .given)) given
-
-      abbrev pub m11 : (before : After-slice-known) → (given : s9 .gives (m9 (before .before) (before .slice-known .given))) → Typed.Mo T12
-      m11 = λ before given. s10 (m10 before given)
-
-      abbrev pub m12 : (before : After-slice-known) → (given : s9 .gives (m9 (before .before) (before .slice-known .given))) → Typed.Mo T13
-      m12 = λ before given. s11 (m11 before given)
+      abbrev pub m12 : (before : After-slice-known) → (given : s11 .gives (m11 (before .before) (before .slice-known .given))) → Typed.Mo T13
+      m12 = λ before given. s11 .next (m11 (before .before) (before .slice-known .given)) given
 
       module _ (before· : After-slice-known) where
         pub record After-slice-known2·own : Type 0 where
-          pub given : s9 .gives (m9 (before· .before) (before· .slice-known .given))
+          pub given : s11 .gives (m11 (before· .before) (before· .slice-known .given))
 
       pub record After-slice-known2 : Type 0 where
         pub before : After-slice-known
         pub slice-known2 : After-slice-known2·own before
 
-      abbrev pub m13 : (before : After-slice-known2) → (given : s13 .gives (m12 (before .before) (before .slice-known2 .given))) → Typed.Mo T15
-      m13 = λ before given. s13 .next (m12 (before .before) (before .slice-known2 .given)) given
+      abbrev pub Need-list-requires : Type 0
+      Need-list-requires = (c : After-slice-known2) → s12 .asks (m12 (c .before) (c .slice-known2 .given))
+
+      abbrev pub m13 : (before : After-slice-known2) → (given : s12 .gives (m12 (before .before) (before .slice-known2 .given))) → Typed.Mo T14
+      m13 = λ before given. s12 .next (m12 (before .before) (before .slice-known2 .given)) given
 
       module _ (before· : After-slice-known2) where
+        abbrev pub After-list·own : Type 0
+        After-list·own = Called.Called ps·0 r·0 (claims· .1) T13 (Num.vFld 1 (List._∷_ (Syntax.field 1) List.[]) 8 λ x. SheetHeld.struct .as-values x .1 .0, (record { pos = 5; ty = Syntax.tyRef (Syntax.named 1) Syntax.imm (Syntax.tyInt Syntax.w8); ref = λ x. x }, (record { pos = 6; ty = Syntax.tyRef (Syntax.named 2) Syntax.imm (Syntax.tyInt Syntax.w8); ref = λ x. x }, (record { pos = 7; ty = Syntax.tyRef (Syntax.named 3) Syntax.imm (Syntax.tyInt Syntax.w8); ref = λ x. x }, (record { pos = 12; ty = Syntax.tyRef (Syntax.named 8) Syntax.imm (Syntax.tyInt Syntax.w32); ref = λ x. x }, tt))))) (m12 (before· .before) (before· .slice-known2 .given))
+
+      pub record After-list : Type 0 where
+        pub before : After-slice-known2
+        pub list : After-list·own before
+
+      abbrev pub After-list·gave : (c : After-list) → s12 .gives (m12 (c .before .before) (c .before .slice-known2 .given))
+      After-list·gave = λ c. Called.given ps·0 r·0 (claims· .1) T13 (Num.vFld 1 (List._∷_ (Syntax.field 1) List.[]) 8 λ x. SheetHeld.struct .as-values x .1 .0, (record { pos = 5; ty = Syntax.tyRef (Syntax.named 1) Syntax.imm (Syntax.tyInt Syntax.w8); ref = λ x. x }, (record { pos = 6; ty = Syntax.tyRef (Syntax.named 2) Syntax.imm (Syntax.tyInt Syntax.w8); ref = λ x. x }, (record { pos = 7; ty = Syntax.tyRef (Syntax.named 3) Syntax.imm (Syntax.tyInt Syntax.w8); ref = λ x. x }, (record { pos = 12; ty = Syntax.tyRef (Syntax.named 8) Syntax.imm (Syntax.tyInt Syntax.w32); ref = λ x. x }, tt))))) (m12 (c .before .before) (c .before .slice-known2 .given)) (c .list)
+
+      abbrev pub m14 : (before : After-slice-known2) → (given : s12 .gives (m12 (before .before) (before .slice-known2 .given))) → Typed.Mo T15
+      m14 = λ before given. s13 (m13 before given)
+
+      abbrev pub m15 : (before : After-slice-known2) → (given : s12 .gives (m12 (before .before) (before .slice-known2 .given))) → Typed.Mo T16
+      m15 = λ before given. s14 (m14 before given)
+
+      abbrev pub m16 : (before : After-slice-known2) → (given : s12 .gives (m12 (before .before) (before .slice-known2 .given))) → Typed.Mo T17
+      m16 = λ before given. s15 (m15 before given)
+
+      abbrev pub m17 : (before : After-slice-known2) → (given : s12 .gives (m12 (before .before) (before .slice-known2 .given))) → Typed.Mo T18
+      m17 = λ before given. s16 (m16 before given)
+
+      abbrev pub m18 : (before : After-list) → (given : s18 .gives (m17 (before .before) (After-list·gave before))) → Typed.Mo T20
+      m18 = λ before given. s18 .next (m17 (before .before) (After-list·gave before)) given
+
+      module _ (before· : After-list) where
         pub record After-tally·own : Type 0 where
-          pub given : s13 .gives (m12 (before· .before) (before· .slice-known2 .given))
+          pub given : s18 .gives (m17 (before· .before) (After-list·gave before·))
 
       pub record After-tally : Type 0 where
-        pub before : After-slice-known2
+        pub before : After-list
         pub tally : After-tally·own before
 
-      abbrev pub m14 : (before : After-tally) → (given : s15 .gives (m13 (before .before) (before .tally .given))) → Typed.Mo T17
-      m14 = λ before given. s15 .next (m13 (before .before) (before .tally .given)) given
-
-      abbrev pub m15 : (before : After-tally) → (given : s15 .gives (m13 (before .before) (before .tally .given))) → Typed.Mo T18
-      m15 = λ before given. s16 .next (m14 before given)
+      abbrev pub m19 : (before : After-tally) → (given : s20 .gives (m18 (before .before) (before .tally .given))) → Typed.Mo T22
+      m19 = λ before given. s20 .next (m18 (before .before) (before .tally .given)) given
 
       module _ (before· : After-tally) where
+        pub record After-links·own : Type 0 where
+          pub given : s20 .gives (m18 (before· .before) (before· .tally .given))
+
+      pub record After-links : Type 0 where
+        pub before : After-tally
+        pub links : After-links·own before
+
+      abbrev pub Need-slice-aggregate-deliver : Type 0
+      Need-slice-aggregate-deliver = (c : After-links) → Relend.CountIs T22 21 22 (λ x. x) (λ u. 512) (m19 (c .before) (c .links .given))
+
+      abbrev pub m20 : (before : After-tally) → (given : s20 .gives (m18 (before .before) (before .tally .given))) → Typed.Mo T23
+      m20 = λ before given. s21 .next (m19 before given)
+
+      abbrev pub m21 : (before : After-links) → (given : s23 .gives (m20 (before .before) (before .links .given))) → Typed.Mo T25
+      m21 = λ before given. s23 .next (m20 (before .before) (before .links .given)) given
+
+      abbrev pub m22 : (before : After-links) → (given : s23 .gives (m20 (before .before) (before .links .given))) → Typed.Mo T26
+      m22 = λ before given. s24 .next (m21 before given)
+
+      module _ (before· : After-links) where
         pub record After-deliver-arg·own : Type 0 where
-          pub given : s15 .gives (m13 (before· .before) (before· .tally .given))
+          pub given : s23 .gives (m20 (before· .before) (before· .links .given))
 
       pub record After-deliver-arg : Type 0 where
-        pub before : After-tally
+        pub before : After-links
         pub deliver-arg : After-deliver-arg·own before
 
-      abbrev pub m16 : (before : After-deliver-arg) → (given : s18 .gives (m15 (before .before) (before .deliver-arg .given))) → Typed.Mo T20
-      m16 = λ before given. s18 .next (m15 (before .before) (before .deliver-arg .given)) given
+      abbrev pub m23 : (before : After-deliver-arg) → (given : s26 .gives (m22 (before .before) (before .deliver-arg .given))) → Typed.Mo T28
+      m23 = λ before given. s26 .next (m22 (before .before) (before .deliver-arg .given)) given
 
-      abbrev pub m17 : (before : After-deliver-arg) → (given : s18 .gives (m15 (before .before) (before .deliver-arg .given))) → Typed.Mo T21
-      m17 = λ before given. s19 .next (m16 before given)
+      abbrev pub m24 : (before : After-deliver-arg) → (given : s26 .gives (m22 (before .before) (before .deliver-arg .given))) → Typed.Mo T29
+      m24 = λ before given. s27 .next (m23 before given)
 
       module _ (before· : After-deliver-arg) where
         pub record After-deliver-arg2·own : Type 0 where
-          pub given : s18 .gives (m15 (before· .before) (before· .deliver-arg .given))
+          pub given : s26 .gives (m22 (before· .before) (before· .deliver-arg .given))
 
       pub record After-deliver-arg2 : Type 0 where
         pub before : After-deliver-arg
         pub deliver-arg2 : After-deliver-arg2·own before
 
       abbrev pub Need-deliver-requires : Type 0
-      Need-deliver-requires = (c : After-deliver-arg2) → s20 .asks (m17 (c .before) (c .deliver-arg2 .given))
+      Need-deliver-requires = (c : After-deliver-arg2) → s28 .asks (m24 (c .before) (c .deliver-arg2 .given))
 
-      abbrev pub m18 : (before : After-deliver-arg2) → (given : s20 .gives (m17 (before .before) (before .deliver-arg2 .given))) → Typed.Mo T22
-      m18 = λ before given. s20 .next (m17 (before .before) (before .deliver-arg2 .given)) given
+      abbrev pub m25 : (before : After-deliver-arg2) → (given : s28 .gives (m24 (before .before) (before .deliver-arg2 .given))) → Typed.Mo T30
+      m25 = λ before given. s28 .next (m24 (before .before) (before .deliver-arg2 .given)) given
 
       module _ (before· : After-deliver-arg2) where
         abbrev pub After-deliver·own : Type 0
-        After-deliver·own = Called.Called ps·0 r·0 (claims· .1) T21 (record { pos = 1; st = List.[]; d = 0; at = λ x. x }, (Num.vAt 2 λ x. x, (record { pos = 16; ty = Syntax.tyRef Syntax.erased Syntax.mut S·Tally.behind; ref = λ x. x }, (record { pos = 4; ty = Syntax.tyRef (Syntax.named 0) Syntax.imm (Syntax.tyInt Syntax.w32); ref = λ x. x }, (record { pos = 5; ty = Syntax.tyRef (Syntax.named 1) Syntax.imm (Syntax.tyInt Syntax.w8); ref = λ x. x }, (record { pos = 6; ty = Syntax.tyRef (Syntax.named 2) Syntax.imm (Syntax.tyInt Syntax.w16); ref = λ x. x }, (record { pos = 7; ty = Syntax.tyRef (Syntax.named 3) Syntax.imm (Syntax.tyInt Syntax.w16); ref = λ x. x }, (record { pos = 8; ty = Syntax.tyRef (Syntax.named 4) Syntax.imm (Syntax.tyInt Syntax.w16); ref = λ x. x }, (record { pos = 9; ty = Syntax.tyRef (Syntax.named 5) Syntax.imm (Syntax.tyInt Syntax.w32); ref = λ x. x }, (record { pos = 10; ty = Syntax.tyRef (Syntax.named 6) Syntax.imm (Syntax.tyInt Syntax.w32); ref = λ x. x }, (record { pos = 11; ty = Syntax.tyRef (Syntax.named 7) Syntax.imm (Syntax.tyInt Syntax.w16); ref = λ x. x }, (record { pos = 18; ty = Syntax.tyRef Syntax.erased Syntax.mut (Syntax.tyInt Syntax.w32); ref = λ x. x }, (record { pos = 20; ty = Syntax.tyRef Syntax.erased Syntax.mut (Syntax.tyInt Syntax.w32); ref = λ x. x }, tt))))))))))))) (m17 (before· .before) (before· .deliver-arg2 .given))
+        After-deliver·own = Called.Called ps·1 r·1 (claims· .3) T29 (record { pos = 1; st = List.[]; d = 0; at = λ x. x }, (Num.vAt 2 λ x. x, (record { pos = 20; ty = Syntax.tyRef Syntax.erased Syntax.mut S·Tally.behind; ref = λ x. x }, (record { pos = 4; ty = Syntax.tyRef (Syntax.named 0) Syntax.imm (Syntax.tyInt Syntax.w32); ref = λ x. x }, (record { pos = 22; ty = Syntax.tyRef Syntax.erased Syntax.imm S·Link.behind; ref = λ x. x }, (record { pos = 8; ty = Syntax.tyRef (Syntax.named 4) Syntax.imm (Syntax.tyInt Syntax.w16); ref = λ x. x }, (record { pos = 9; ty = Syntax.tyRef (Syntax.named 5) Syntax.imm (Syntax.tyInt Syntax.w16); ref = λ x. x }, (record { pos = 10; ty = Syntax.tyRef (Syntax.named 6) Syntax.imm (Syntax.tyInt Syntax.w16); ref = λ x. x }, (record { pos = 11; ty = Syntax.tyRef (Syntax.named 7) Syntax.imm (Syntax.tyInt Syntax.w32); ref = λ x. x }, (record { pos = 12; ty = Syntax.tyRef (Syntax.named 8) Syntax.imm (Syntax.tyInt Syntax.w32); ref = λ x. x }, (record { pos = 13; ty = Syntax.tyRef (Syntax.named 9) Syntax.imm (Syntax.tyInt Syntax.w16); ref = λ x. x }, (record { pos = 24; ty = Syntax.tyRef Syntax.erased Syntax.mut (Syntax.tyInt Syntax.w32); ref = λ x. x }, (record { pos = 26; ty = Syntax.tyRef Syntax.erased Syntax.mut (Syntax.tyInt Syntax.w32); ref = λ x. x }, tt))))))))))))) (m24 (before· .before) (before· .deliver-arg2 .given))
 
       pub record After-deliver : Type 0 where
         pub before : After-deliver-arg2
         pub deliver : After-deliver·own before
 
-      abbrev pub After-deliver·gave : (c : After-deliver) → s20 .gives (m17 (c .before .before) (c .before .deliver-arg2 .given))
-      After-deliver·gave = λ c. Called.given ps·0 r·0 (claims· .1) T21 (record { pos = 1; st = List.[]; d = 0; at = λ x. x }, (Num.vAt 2 λ x. x, (record { pos = 16; ty = Syntax.tyRef Syntax.erased Syntax.mut S·Tally.behind; ref = λ x. x }, (record { pos = 4; ty = Syntax.tyRef (Syntax.named 0) Syntax.imm (Syntax.tyInt Syntax.w32); ref = λ x. x }, (record { pos = 5; ty = Syntax.tyRef (Syntax.named 1) Syntax.imm (Syntax.tyInt Syntax.w8); ref = λ x. x }, (record { pos = 6; ty = Syntax.tyRef (Syntax.named 2) Syntax.imm (Syntax.tyInt Syntax.w16); ref = λ x. x }, (record { pos = 7; ty = Syntax.tyRef (Syntax.named 3) Syntax.imm (Syntax.tyInt Syntax.w16); ref = λ x. x }, (record { pos = 8; ty = Syntax.tyRef (Syntax.named 4) Syntax.imm (Syntax.tyInt Syntax.w16); ref = λ x. x }, (record { pos = 9; ty = Syntax.tyRef (Syntax.named 5) Syntax.imm (Syntax.tyInt Syntax.w32); ref = λ x. x }, (record { pos = 10; ty = Syntax.tyRef (Syntax.named 6) Syntax.imm (Syntax.tyInt Syntax.w32); ref = λ x. x }, (record { pos = 11; ty = Syntax.tyRef (Syntax.named 7) Syntax.imm (Syntax.tyInt Syntax.w16); ref = λ x. x }, (record { pos = 18; ty = Syntax.tyRef Syntax.erased Syntax.mut (Syntax.tyInt Syntax.w32); ref = λ x. x }, (record { pos = 20; ty = Syntax.tyRef Syntax.erased Syntax.mut (Syntax.tyInt Syntax.w32); ref = λ x. x }, tt))))))))))))) (m17 (c .before .before) (c .before .deliver-arg2 .given)) (c .deliver)
+      abbrev pub After-deliver·gave : (c : After-deliver) → s28 .gives (m24 (c .before .before) (c .before .deliver-arg2 .given))
+      After-deliver·gave = λ c. Called.given ps·1 r·1 (claims· .3) T29 (record { pos = 1; st = List.[]; d = 0; at = λ x. x }, (Num.vAt 2 λ x. x, (record { pos = 20; ty = Syntax.tyRef Syntax.erased Syntax.mut S·Tally.behind; ref = λ x. x }, (record { pos = 4; ty = Syntax.tyRef (Syntax.named 0) Syntax.imm (Syntax.tyInt Syntax.w32); ref = λ x. x }, (record { pos = 22; ty = Syntax.tyRef Syntax.erased Syntax.imm S·Link.behind; ref = λ x. x }, (record { pos = 8; ty = Syntax.tyRef (Syntax.named 4) Syntax.imm (Syntax.tyInt Syntax.w16); ref = λ x. x }, (record { pos = 9; ty = Syntax.tyRef (Syntax.named 5) Syntax.imm (Syntax.tyInt Syntax.w16); ref = λ x. x }, (record { pos = 10; ty = Syntax.tyRef (Syntax.named 6) Syntax.imm (Syntax.tyInt Syntax.w16); ref = λ x. x }, (record { pos = 11; ty = Syntax.tyRef (Syntax.named 7) Syntax.imm (Syntax.tyInt Syntax.w32); ref = λ x. x }, (record { pos = 12; ty = Syntax.tyRef (Syntax.named 8) Syntax.imm (Syntax.tyInt Syntax.w32); ref = λ x. x }, (record { pos = 13; ty = Syntax.tyRef (Syntax.named 9) Syntax.imm (Syntax.tyInt Syntax.w16); ref = λ x. x }, (record { pos = 24; ty = Syntax.tyRef Syntax.erased Syntax.mut (Syntax.tyInt Syntax.w32); ref = λ x. x }, (record { pos = 26; ty = Syntax.tyRef Syntax.erased Syntax.mut (Syntax.tyInt Syntax.w32); ref = λ x. x }, tt))))))))))))) (m24 (c .before .before) (c .before .deliver-arg2 .given)) (c .deliver)
 
-      abbrev pub m19 : (before : After-deliver-arg2) → (given : s20 .gives (m17 (before .before) (before .deliver-arg2 .given))) → Typed.Mo T23
-      m19 = λ before given. s21 (m18 before given)
+      abbrev pub m26 : (before : After-deliver-arg2) → (given : s28 .gives (m24 (before .before) (before .deliver-arg2 .given))) → Typed.Mo T31
+      m26 = λ before given. s29 (m25 before given)
 
-      abbrev pub m20 : (before : After-deliver-arg2) → (given : s20 .gives (m17 (before .before) (before .deliver-arg2 .given))) → Typed.Mo T24
-      m20 = λ before given. s22 (m19 before given)
+      abbrev pub m27 : (before : After-deliver-arg2) → (given : s28 .gives (m24 (before .before) (before .deliver-arg2 .given))) → Typed.Mo T32
+      m27 = λ before given. s30 (m26 before given)
 
-      abbrev pub m21 : (before : After-deliver-arg2) → (given : s20 .gives (m17 (before .before) (before .deliver-arg2 .given))) → Typed.Mo T26
-      m21 = λ before given. s24 .next (m20 before given)
+      abbrev pub m28 : (before : After-deliver-arg2) → (given : s28 .gives (m24 (before .before) (before .deliver-arg2 .given))) → Typed.Mo T33
+      m28 = λ before given. s31 (m27 before given)
 
-      abbrev pub m22 : (before : After-deliver) → (given : s27 .gives (m21 (before .before) (After-deliver·gave before))) → Typed.Mo T29
-      m22 = λ before given. s27 .next (m21 (before .before) (After-deliver·gave before)) given
+      abbrev pub m29 : (before : After-deliver-arg2) → (given : s28 .gives (m24 (before .before) (before .deliver-arg2 .given))) → Typed.Mo T35
+      m29 = λ before given. s33 .next (m28 before given)
+
+      abbrev pub m30 : (before : After-deliver-arg2) → (given : s28 .gives (m24 (before .before) (before .deliver-arg2 .given))) → Typed.Mo T38
+      m30 = λ before given. s36 (m29 before given)
+
+      abbrev pub m31 : (before : After-deliver-arg2) → (given : s28 .gives (m24 (before .before) (before .deliver-arg2 .given))) → Typed.Mo T40
+      m31 = λ before given. s38 (m30 before given)
+
+      abbrev pub m32 : (before : After-deliver) → (given : s40 .gives (m31 (before .before) (After-deliver·gave before))) → Typed.Mo T42
+      m32 = λ before given. s40 .next (m31 (before .before) (After-deliver·gave before)) given
 
       module _ (before· : After-deliver) where
         pub record After-inbox·own : Type 0 where
-          pub given : s27 .gives (m21 (before· .before) (After-deliver·gave before·))
+          pub given : s40 .gives (m31 (before· .before) (After-deliver·gave before·))
 
       pub record After-inbox : Type 0 where
         pub before : After-deliver
         pub inbox : After-inbox·own before
 
-      abbrev pub m23 : (before : After-inbox) → (given : s28 .gives (m22 (before .before) (before .inbox .given))) → Typed.Mo T30
-      m23 = λ before given. s28 .next (m22 (before .before) (before .inbox .given)) given
+      abbrev pub m33 : (before : After-inbox) → (given : s41 .gives (m32 (before .before) (before .inbox .given))) → Typed.Mo T43
+      m33 = λ before given. s41 .next (m32 (before .before) (before .inbox .given)) given
 
       module _ (before· : After-inbox) where
         pub record After-slice-known3·own : Type 0 where
-          pub given : s28 .gives (m22 (before· .before) (before· .inbox .given))
+          pub given : s41 .gives (m32 (before· .before) (before· .inbox .given))
 
       pub record After-slice-known3 : Type 0 where
         pub before : After-inbox
         pub slice-known3 : After-slice-known3·own before
 
-      abbrev pub m24 : (before : After-slice-known3) → (given : s31 .gives (m23 (before .before) (before .slice-known3 .given))) → Typed.Mo T33
-      m24 = λ before given. s31 .next (m23 (before .before) (before .slice-known3 .given)) given
+      abbrev pub m34 : (before : After-slice-known3) → (given : s44 .gives (m33 (before .before) (before .slice-known3 .given))) → Typed.Mo T46
+      m34 = λ before given. s44 .next (m33 (before .before) (before .slice-known3 .given)) given
 
       module _ (before· : After-slice-known3) where
         pub record After-quiet·own : Type 0 where
-          pub given : s31 .gives (m23 (before· .before) (before· .slice-known3 .given))
+          pub given : s44 .gives (m33 (before· .before) (before· .slice-known3 .given))
 
       pub record After-quiet : Type 0 where
         pub before : After-slice-known3
         pub quiet : After-quiet·own before
 
-      abbrev pub m25 : (before : After-quiet) → (given : s32 .gives (m24 (before .before) (before .quiet .given))) → Typed.Mo T34
-      m25 = λ before given. s32 .next (m24 (before .before) (before .quiet .given)) given
+      abbrev pub m35 : (before : After-quiet) → (given : s45 .gives (m34 (before .before) (before .quiet .given))) → Typed.Mo T47
+      m35 = λ before given. s45 .next (m34 (before .before) (before .quiet .given)) given
 
-      abbrev pub m26 : (before : After-quiet) → (given : s32 .gives (m24 (before .before) (before .quiet .given))) → Typed.Mo T36
-      m26 = λ before given. s34 (m25 before given)
+      abbrev pub m36 : (before : After-quiet) → (given : s45 .gives (m34 (before .before) (before .quiet .given))) → Typed.Mo T49
+      m36 = λ before given. s47 (m35 before given)
 
-      abbrev pub m27 : (before : After-quiet) → (given : s32 .gives (m24 (before .before) (before .quiet .given))) → Typed.Mo T37
-      m27 = λ before given. s35 (m26 before given)
+      abbrev pub m37 : (before : After-quiet) → (given : s45 .gives (m34 (before .before) (before .quiet .given))) → Typed.Mo T50
+      m37 = λ before given. s48 (m36 before given)
 
-      abbrev pub m28 : (before : After-quiet) → (given : s32 .gives (m24 (before .before) (before .quiet .given))) → Typed.Mo T38
-      m28 = λ before given. s36 (m27 before given)
+      abbrev pub m38 : (before : After-quiet) → (given : s45 .gives (m34 (before .before) (before .quiet .given))) → Typed.Mo T51
+      m38 = λ before given. s49 (m37 before given)
 
       module _ (before· : After-quiet) where
         pub record After-slice-known4·own : Type 0 where
-          pub given : s32 .gives (m24 (before· .before) (before· .quiet .given))
+          pub given : s45 .gives (m34 (before· .before) (before· .quiet .given))
 
       pub record After-slice-known4 : Type 0 where
         pub before : After-quiet
         pub slice-known4 : After-slice-known4·own before
 
       abbrev pub Need-same-length : Type 0
-      Need-same-length = (c : After-slice-known4) → MutSlice.SameLen (Row.get 12 (T38 .locals) (m28 (c .before) (c .slice-known4 .given))) (dens (c .before .before .before .before .before .before .before .before .before .before .before .before .before .before .before .before .before .before .κs) (c .before .before .before .before .before .before .before .before .before .before .before .before .before .before .before .before .before .before .args) .1 .1 .1 .1 .1 .1 .1 .1 .1 .1 .1 .0)
+      Need-same-length = (c : After-slice-known4) → MutSlice.SameLen (Row.get 14 (T51 .locals) (m38 (c .before) (c .slice-known4 .given))) (dens (c .before .before .before .before .before .before .before .before .before .before .before .before .before .before .before .before .before .before .before .before .before .before .κs) (c .before .before .before .before .before .before .before .before .before .before .before .before .before .before .before .before .before .before .before .before .before .before .args) .1 .1 .1 .1 .1 .1 .1 .1 .1 .1 .1 .1 .1 .0)
 
       abbrev pub Need-same-length-2 : Type 0
-      Need-same-length-2 = (c : After-slice-known4) → MutSlice.SameLen (Row.get 13 (T38 .locals) (m28 (c .before) (c .slice-known4 .given))) (dens (c .before .before .before .before .before .before .before .before .before .before .before .before .before .before .before .before .before .before .κs) (c .before .before .before .before .before .before .before .before .before .before .before .before .before .before .before .before .before .before .args) .1 .1 .1 .1 .1 .1 .1 .1 .1 .1 .1 .1 .0)
+      Need-same-length-2 = (c : After-slice-known4) → MutSlice.SameLen (Row.get 15 (T51 .locals) (m38 (c .before) (c .slice-known4 .given))) (dens (c .before .before .before .before .before .before .before .before .before .before .before .before .before .before .before .before .before .before .before .before .before .before .κs) (c .before .before .before .before .before .before .before .before .before .before .before .before .before .before .before .before .before .before .before .before .before .before .args) .1 .1 .1 .1 .1 .1 .1 .1 .1 .1 .1 .1 .1 .1 .0)
 
       abbrev pub Need-returns : Type 0
-      Need-returns = (c : After-slice-known4) → Post· (c .before .before .before .before .before .before .before .before .before .before .before .before .before .before .before .before .before .before .κs) (dens (c .before .before .before .before .before .before .before .before .before .before .before .before .before .before .before .before .before .before .κs) (c .before .before .before .before .before .before .before .before .before .before .before .before .before .before .before .before .before .before .args)) (Function.resV r (c .before .before .before .before .before .before .before .before .before .before .before .before .before .before .before .before .before .before .κs) (m28 (c .before) (c .slice-known4 .given) .0)) (Clauses.atExit (Kinds.endedOf 10 ps r) (c .before .before .before .before .before .before .before .before .before .before .before .before .before .before .before .before .before .before .κs) (dens (c .before .before .before .before .before .before .before .before .before .before .before .before .before .before .before .before .before .before .κs) (c .before .before .before .before .before .before .before .before .before .before .before .before .before .before .before .before .before .before .args)) (Enter.lastsP (c .before .before .before .before .before .before .before .before .before .before .before .before .before .before .before .before .before .before .κs) 1 ps xs (dens (c .before .before .before .before .before .before .before .before .before .before .before .before .before .before .before .before .before .before .κs) (c .before .before .before .before .before .before .before .before .before .before .before .before .before .before .before .before .before .before .args)) (m28 (c .before) (c .slice-known4 .given) .1)))
+      Need-returns = (c : After-slice-known4) → Post· (c .before .before .before .before .before .before .before .before .before .before .before .before .before .before .before .before .before .before .before .before .before .before .κs) (dens (c .before .before .before .before .before .before .before .before .before .before .before .before .before .before .before .before .before .before .before .before .before .before .κs) (c .before .before .before .before .before .before .before .before .before .before .before .before .before .before .before .before .before .before .before .before .before .before .args)) (Function.resV r (c .before .before .before .before .before .before .before .before .before .before .before .before .before .before .before .before .before .before .before .before .before .before .κs) (m38 (c .before) (c .slice-known4 .given) .0)) (Clauses.atExit (Kinds.endedOf 12 ps r) (c .before .before .before .before .before .before .before .before .before .before .before .before .before .before .before .before .before .before .before .before .before .before .κs) (dens (c .before .before .before .before .before .before .before .before .before .before .before .before .before .before .before .before .before .before .before .before .before .before .κs) (c .before .before .before .before .before .before .before .before .before .before .before .before .before .before .before .before .before .before .before .before .before .before .args)) (Enter.lastsP (c .before .before .before .before .before .before .before .before .before .before .before .before .before .before .before .before .before .before .before .before .before .before .κs) 1 ps xs (dens (c .before .before .before .before .before .before .before .before .before .before .before .before .before .before .before .before .before .before .before .before .before .before .κs) (c .before .before .before .before .before .before .before .before .before .before .before .before .before .before .before .before .before .before .before .before .before .before .args)) (m38 (c .before) (c .slice-known4 .given) .1)))
 
-      module _ (deliver-requires : Need-deliver-requires) (same-length : Need-same-length) (same-length-2 : Need-same-length-2) (returns : Need-returns) where
-        lay1 : (c : After-deliver) → at16 (W0 (c .before .before .before .before .before .before .before .before .before .before .before .before .before .before .κs) (c .before .before .before .before .before .before .before .before .before .before .before .before .before .before .args)) (m18 (c .before) (After-deliver·gave c))
-        lay1 = λ c. (Path'.refl, (Path'.refl, λ g. λ g'. (Path'.refl, λ g''. λ g'3. ((tt, (tt, (tt, (Path'.refl, (Path'.refl, (Path'.refl, (Path'.refl, (Path'.refl, (Path'.refl, (Path'.refl, (Path'.refl, (MutSlice.fix-len (Row.get 12 (T38 .locals) (m28 record { before = record { before = record { before = record { before = c .before; deliver = c .deliver }; inbox = record { given = g } }; slice-known3 = record { given = g' } }; quiet = record { given = g'' } } g'3) .ptr) (Row.get 12 (T38 .locals) (m28 record { before = record { before = record { before = record { before = c .before; deliver = c .deliver }; inbox = record { given = g } }; slice-known3 = record { given = g' } }; quiet = record { given = g'' } } g'3) .name) (Row.get 12 (T38 .locals) (m28 record { before = record { before = record { before = record { before = c .before; deliver = c .deliver }; inbox = record { given = g } }; slice-known3 = record { given = g' } }; quiet = record { given = g'' } } g'3) .now) (dens (c .before .before .before .before .before .before .before .before .before .before .before .before .before .before .κs) (c .before .before .before .before .before .before .before .before .before .before .before .before .before .before .args) .1 .1 .1 .1 .1 .1 .1 .1 .1 .1 .1 .0 .now) (same-length record { before = record { before = record { before = record { before = record { before = c .before; deliver = c .deliver }; inbox = record { given = g } }; slice-known3 = record { given = g' } }; quiet = record { given = g'' } }; slice-known4 = record { given = g'3 } }), (MutSlice.fix-len (Row.get 13 (T38 .locals) (m28 record { before = record { before = record { before = record { before = c .before; deliver = c .deliver }; inbox = record { given = g } }; slice-known3 = record { given = g' } }; quiet = record { given = g'' } } g'3) .ptr) (Row.get 13 (T38 .locals) (m28 record { before = record { before = record { before = record { before = c .before; deliver = c .deliver }; inbox = record { given = g } }; slice-known3 = record { given = g' } }; quiet = record { given = g'' } } g'3) .name) (Row.get 13 (T38 .locals) (m28 record { before = record { before = record { before = record { before = c .before; deliver = c .deliver }; inbox = record { given = g } }; slice-known3 = record { given = g' } }; quiet = record { given = g'' } } g'3) .now) (dens (c .before .before .before .before .before .before .before .before .before .before .before .before .before .before .κs) (c .before .before .before .before .before .before .before .before .before .before .before .before .before .before .args) .1 .1 .1 .1 .1 .1 .1 .1 .1 .1 .1 .1 .0 .now) (same-length-2 record { before = record { before = record { before = record { before = record { before = c .before; deliver = c .deliver }; inbox = record { given = g } }; slice-known3 = record { given = g' } }; quiet = record { given = g'' } }; slice-known4 = record { given = g'3 } }), tt))))))))))))), returns record { before = record { before = record { before = record { before = record { before = c .before; deliver = c .deliver }; inbox = record { given = g } }; slice-known3 = record { given = g' } }; quiet = record { given = g'' } }; slice-known4 = record { given = g'3 } }))))
+      module _ (list-requires : Need-list-requires) (slice-aggregate-deliver : Need-slice-aggregate-deliver) (deliver-requires : Need-deliver-requires) (same-length : Need-same-length) (same-length-2 : Need-same-length-2) (returns : Need-returns) where
+        lay2 : (c : After-deliver) → at21 (W0 (c .before .before .before .before .before .before .before .before .before .before .before .before .before .before .before .before .before .before .κs) (c .before .before .before .before .before .before .before .before .before .before .before .before .before .before .before .before .before .before .args)) (m25 (c .before) (After-deliver·gave c))
+        lay2 = λ c. (Path'.refl, (Path'.refl, λ g. λ g'. (Path'.refl, λ g''. λ g'3. ((tt, (tt, (tt, (Path'.refl, (Path'.refl, (Path'.refl, (Path'.refl, (Path'.refl, (Path'.refl, (Path'.refl, (Path'.refl, (Path'.refl, (Path'.refl, (MutSlice.fix-len (Row.get 14 (T51 .locals) (m38 record { before = record { before = record { before = record { before = c .before; deliver = c .deliver }; inbox = record { given = g } }; slice-known3 = record { given = g' } }; quiet = record { given = g'' } } g'3) .ptr) (Row.get 14 (T51 .locals) (m38 record { before = record { before = record { before = record { before = c .before; deliver = c .deliver }; inbox = record { given = g } }; slice-known3 = record { given = g' } }; quiet = record { given = g'' } } g'3) .name) (Row.get 14 (T51 .locals) (m38 record { before = record { before = record { before = record { before = c .before; deliver = c .deliver }; inbox = record { given = g } }; slice-known3 = record { given = g' } }; quiet = record { given = g'' } } g'3) .now) (dens (c .before .before .before .before .before .before .before .before .before .before .before .before .before .before .before .before .before .before .κs) (c .before .before .before .before .before .before .before .before .before .before .before .before .before .before .before .before .before .before .args) .1 .1 .1 .1 .1 .1 .1 .1 .1 .1 .1 .1 .1 .0 .now) (same-length record { before = record { before = record { before = record { before = record { before = c .before; deliver = c .deliver }; inbox = record { given = g } }; slice-known3 = record { given = g' } }; quiet = record { given = g'' } }; slice-known4 = record { given = g'3 } }), (MutSlice.fix-len (Row.get 15 (T51 .locals) (m38 record { before = record { before = record { before = record { before = c .before; deliver = c .deliver }; inbox = record { given = g } }; slice-known3 = record { given = g' } }; quiet = record { given = g'' } } g'3) .ptr) (Row.get 15 (T51 .locals) (m38 record { before = record { before = record { before = record { before = c .before; deliver = c .deliver }; inbox = record { given = g } }; slice-known3 = record { given = g' } }; quiet = record { given = g'' } } g'3) .name) (Row.get 15 (T51 .locals) (m38 record { before = record { before = record { before = record { before = c .before; deliver = c .deliver }; inbox = record { given = g } }; slice-known3 = record { given = g' } }; quiet = record { given = g'' } } g'3) .now) (dens (c .before .before .before .before .before .before .before .before .before .before .before .before .before .before .before .before .before .before .κs) (c .before .before .before .before .before .before .before .before .before .before .before .before .before .before .before .before .before .before .args) .1 .1 .1 .1 .1 .1 .1 .1 .1 .1 .1 .1 .1 .1 .0 .now) (same-length-2 record { before = record { before = record { before = record { before = record { before = c .before; deliver = c .deliver }; inbox = record { given = g } }; slice-known3 = record { given = g' } }; quiet = record { given = g'' } }; slice-known4 = record { given = g'3 } }), tt))))))))))))))), returns record { before = record { before = record { before = record { before = record { before = c .before; deliver = c .deliver }; inbox = record { given = g } }; slice-known3 = record { given = g' } }; quiet = record { given = g'' } }; slice-known4 = record { given = g'3 } }))))
 
-        pub laid : (c : Start) → at37 (W0 (c .κs) (c .args)) (m0 (c .κs) (c .args))
-        laid = λ c. λ g. λ g'. λ g''. λ g'3. λ g'4. λ g'5. λ g'6. λ g'7. λ g'8. λ g'9. λ g'10. λ g'11. (Path'.refl, λ g'12. (Path'.refl, (deliver-requires record { before = record { before = record { before = record { before = record { before = record { before = record { before = record { before = record { before = record { before = record { before = record { before = record { before = c; shared-slice-known = record { given = g } }; shared-slice-known2 = record { given = g' } }; shared-slice-known3 = record { given = g'' } }; shared-slice-known4 = record { given = g'3 } }; shared-slice-known5 = record { given = g'4 } }; shared-slice-known6 = record { given = g'5 } }; shared-slice-known7 = record { given = g'6 } }; shared-slice-known8 = record { given = g'7 } }; slice-known = record { given = g'8 } }; slice-known2 = record { given = g'9 } }; tally = record { given = g'10 } }; deliver-arg = record { given = g'11 } }; deliver-arg2 = record { given = g'12 } }, λ g'13. lay1 record { before = record { before = record { before = record { before = record { before = record { before = record { before = record { before = record { before = record { before = record { before = record { before = record { before = record { before = c; shared-slice-known = record { given = g } }; shared-slice-known2 = record { given = g' } }; shared-slice-known3 = record { given = g'' } }; shared-slice-known4 = record { given = g'3 } }; shared-slice-known5 = record { given = g'4 } }; shared-slice-known6 = record { given = g'5 } }; shared-slice-known7 = record { given = g'6 } }; shared-slice-known8 = record { given = g'7 } }; slice-known = record { given = g'8 } }; slice-known2 = record { given = g'9 } }; tally = record { given = g'10 } }; deliver-arg = record { given = g'11 } }; deliver-arg2 = record { given = g'12 } }; deliver = Called.called ps·0 r·0 (claims· .1) T21 (record { pos = 1; st = List.[]; d = 0; at = λ x. x }, (Num.vAt 2 λ x. x, (record { pos = 16; ty = Syntax.tyRef Syntax.erased Syntax.mut S·Tally.behind; ref = λ x. x }, (record { pos = 4; ty = Syntax.tyRef (Syntax.named 0) Syntax.imm (Syntax.tyInt Syntax.w32); ref = λ x. x }, (record { pos = 5; ty = Syntax.tyRef (Syntax.named 1) Syntax.imm (Syntax.tyInt Syntax.w8); ref = λ x. x }, (record { pos = 6; ty = Syntax.tyRef (Syntax.named 2) Syntax.imm (Syntax.tyInt Syntax.w16); ref = λ x. x }, (record { pos = 7; ty = Syntax.tyRef (Syntax.named 3) Syntax.imm (Syntax.tyInt Syntax.w16); ref = λ x. x }, (record { pos = 8; ty = Syntax.tyRef (Syntax.named 4) Syntax.imm (Syntax.tyInt Syntax.w16); ref = λ x. x }, (record { pos = 9; ty = Syntax.tyRef (Syntax.named 5) Syntax.imm (Syntax.tyInt Syntax.w32); ref = λ x. x }, (record { pos = 10; ty = Syntax.tyRef (Syntax.named 6) Syntax.imm (Syntax.tyInt Syntax.w32); ref = λ x. x }, (record { pos = 11; ty = Syntax.tyRef (Syntax.named 7) Syntax.imm (Syntax.tyInt Syntax.w16); ref = λ x. x }, (record { pos = 18; ty = Syntax.tyRef Syntax.erased Syntax.mut (Syntax.tyInt Syntax.w32); ref = λ x. x }, (record { pos = 20; ty = Syntax.tyRef Syntax.erased Syntax.mut (Syntax.tyInt Syntax.w32); ref = λ x. x }, tt))))))))))))) (m17 record { before = record { before = record { before = record { before = record { before = record { before = record { before = record { before = record { before = record { before = record { before = record { before = c; shared-slice-known = record { given = g } }; shared-slice-known2 = record { given = g' } }; shared-slice-known3 = record { given = g'' } }; shared-slice-known4 = record { given = g'3 } }; shared-slice-known5 = record { given = g'4 } }; shared-slice-known6 = record { given = g'5 } }; shared-slice-known7 = record { given = g'6 } }; shared-slice-known8 = record { given = g'7 } }; slice-known = record { given = g'8 } }; slice-known2 = record { given = g'9 } }; tally = record { given = g'10 } }; deliver-arg = record { given = g'11 } } g'12) g'13 })))
+        lay1 : (c : After-list) → at37 (W0 (c .before .before .before .before .before .before .before .before .before .before .before .before .before .κs) (c .before .before .before .before .before .before .before .before .before .before .before .before .before .args)) (m13 (c .before) (After-list·gave c))
+        lay1 = λ c. λ g. λ g'. (Relend.count-is T22 21 22 (λ x. x) (λ u. 512) (m19 record { before = record { before = c .before; list = c .list }; tally = record { given = g } } g') (slice-aggregate-deliver record { before = record { before = record { before = c .before; list = c .list }; tally = record { given = g } }; links = record { given = g' } }), λ g''. (Path'.refl, λ g'3. (Path'.refl, (deliver-requires record { before = record { before = record { before = record { before = record { before = c .before; list = c .list }; tally = record { given = g } }; links = record { given = g' } }; deliver-arg = record { given = g'' } }; deliver-arg2 = record { given = g'3 } }, λ g'4. lay2 record { before = record { before = record { before = record { before = record { before = record { before = c .before; list = c .list }; tally = record { given = g } }; links = record { given = g' } }; deliver-arg = record { given = g'' } }; deliver-arg2 = record { given = g'3 } }; deliver = Called.called ps·1 r·1 (claims· .3) T29 (record { pos = 1; st = List.[]; d = 0; at = λ x. x }, (Num.vAt 2 λ x. x, (record { pos = 20; ty = Syntax.tyRef Syntax.erased Syntax.mut S·Tally.behind; ref = λ x. x }, (record { pos = 4; ty = Syntax.tyRef (Syntax.named 0) Syntax.imm (Syntax.tyInt Syntax.w32); ref = λ x. x }, (record { pos = 22; ty = Syntax.tyRef Syntax.erased Syntax.imm S·Link.behind; ref = λ x. x }, (record { pos = 8; ty = Syntax.tyRef (Syntax.named 4) Syntax.imm (Syntax.tyInt Syntax.w16); ref = λ x. x }, (record { pos = 9; ty = Syntax.tyRef (Syntax.named 5) Syntax.imm (Syntax.tyInt Syntax.w16); ref = λ x. x }, (record { pos = 10; ty = Syntax.tyRef (Syntax.named 6) Syntax.imm (Syntax.tyInt Syntax.w16); ref = λ x. x }, (record { pos = 11; ty = Syntax.tyRef (Syntax.named 7) Syntax.imm (Syntax.tyInt Syntax.w32); ref = λ x. x }, (record { pos = 12; ty = Syntax.tyRef (Syntax.named 8) Syntax.imm (Syntax.tyInt Syntax.w32); ref = λ x. x }, (record { pos = 13; ty = Syntax.tyRef (Syntax.named 9) Syntax.imm (Syntax.tyInt Syntax.w16); ref = λ x. x }, (record { pos = 24; ty = Syntax.tyRef Syntax.erased Syntax.mut (Syntax.tyInt Syntax.w32); ref = λ x. x }, (record { pos = 26; ty = Syntax.tyRef Syntax.erased Syntax.mut (Syntax.tyInt Syntax.w32); ref = λ x. x }, tt))))))))))))) (m24 record { before = record { before = record { before = record { before = c .before; list = c .list }; tally = record { given = g } }; links = record { given = g' } }; deliver-arg = record { given = g'' } } g'3) g'4 }))))
 
-        module _ (κs : Lifetimes.Lfts 10) (qs : Lifetimes.Shares 10) where
-          pub asked : (a : Kinds.Dens κs ps) → (good : Kinds.GoodsP κs ps a) → (pre : Pre· κs a) → (bs : List.List Nat.ℕ) → Φ (Any.wantQ 10 ps r xs m κs qs a (Post· κs a)) (Function.init 10 ps r xs m κs qs a)
-          asked = λ a good pre bs. laid record { κs = κs; args = record { h = a .0; j = a .1 .0; t = a .1 .1 .0; traffic = a .1 .1 .1 .0; from = a .1 .1 .1 .1 .0; starts = a .1 .1 .1 .1 .1 .0; flow-starts = a .1 .1 .1 .1 .1 .1 .0; flow = a .1 .1 .1 .1 .1 .1 .1 .0; line = a .1 .1 .1 .1 .1 .1 .1 .1 .0; fraction = a .1 .1 .1 .1 .1 .1 .1 .1 .1 .0; opposite = a .1 .1 .1 .1 .1 .1 .1 .1 .1 .1 .0; inbox = a .1 .1 .1 .1 .1 .1 .1 .1 .1 .1 .1 .0; quiet = a .1 .1 .1 .1 .1 .1 .1 .1 .1 .1 .1 .1 .0 }; good = good; fits = record { j = record { fits = good .1 .0 .1 } }; pre = pre }
+        pub laid : (c : Start) → at50 (W0 (c .κs) (c .args)) (m0 (c .κs) (c .args))
+        laid = λ c. λ g. λ g'. λ g''. λ g'3. λ g'4. λ g'5. λ g'6. λ g'7. λ g'8. λ g'9. λ g'10. λ g'11. (list-requires record { before = record { before = record { before = record { before = record { before = record { before = record { before = record { before = record { before = record { before = record { before = record { before = c; shared-slice-known = record { given = g } }; shared-slice-known2 = record { given = g' } }; shared-slice-known3 = record { given = g'' } }; shared-slice-known4 = record { given = g'3 } }; shared-slice-known5 = record { given = g'4 } }; shared-slice-known6 = record { given = g'5 } }; shared-slice-known7 = record { given = g'6 } }; shared-slice-known8 = record { given = g'7 } }; shared-slice-known9 = record { given = g'8 } }; shared-slice-known10 = record { given = g'9 } }; slice-known = record { given = g'10 } }; slice-known2 = record { given = g'11 } }, λ g'12. lay1 record { before = record { before = record { before = record { before = record { before = record { before = record { before = record { before = record { before = record { before = record { before = record { before = record { before = c; shared-slice-known = record { given = g } }; shared-slice-known2 = record { given = g' } }; shared-slice-known3 = record { given = g'' } }; shared-slice-known4 = record { given = g'3 } }; shared-slice-known5 = record { given = g'4 } }; shared-slice-known6 = record { given = g'5 } }; shared-slice-known7 = record { given = g'6 } }; shared-slice-known8 = record { given = g'7 } }; shared-slice-known9 = record { given = g'8 } }; shared-slice-known10 = record { given = g'9 } }; slice-known = record { given = g'10 } }; slice-known2 = record { given = g'11 } }; list = Called.called ps·0 r·0 (claims· .1) T13 (Num.vFld 1 (List._∷_ (Syntax.field 1) List.[]) 8 λ x. SheetHeld.struct .as-values x .1 .0, (record { pos = 5; ty = Syntax.tyRef (Syntax.named 1) Syntax.imm (Syntax.tyInt Syntax.w8); ref = λ x. x }, (record { pos = 6; ty = Syntax.tyRef (Syntax.named 2) Syntax.imm (Syntax.tyInt Syntax.w8); ref = λ x. x }, (record { pos = 7; ty = Syntax.tyRef (Syntax.named 3) Syntax.imm (Syntax.tyInt Syntax.w8); ref = λ x. x }, (record { pos = 12; ty = Syntax.tyRef (Syntax.named 8) Syntax.imm (Syntax.tyInt Syntax.w32); ref = λ x. x }, tt))))) (m12 record { before = record { before = record { before = record { before = record { before = record { before = record { before = record { before = record { before = record { before = record { before = c; shared-slice-known = record { given = g } }; shared-slice-known2 = record { given = g' } }; shared-slice-known3 = record { given = g'' } }; shared-slice-known4 = record { given = g'3 } }; shared-slice-known5 = record { given = g'4 } }; shared-slice-known6 = record { given = g'5 } }; shared-slice-known7 = record { given = g'6 } }; shared-slice-known8 = record { given = g'7 } }; shared-slice-known9 = record { given = g'8 } }; shared-slice-known10 = record { given = g'9 } }; slice-known = record { given = g'10 } } g'11) g'12 })
 
-        module _ {M : Type 1} (𝓤 : URA.URA M) (H : Wp.Heap 𝓤) (A : Atoms.Atoms 𝓤) (W : Kit.Given 𝓤 H A) (𝓣 : Wp.Tables 𝓤 H) (known0 : Plain.Known 𝓤 H A W 𝓣 11 ps·0 r·0 (claims· .0) (claims· .1) "messages::deliver") where
-          pub spec : Statement.Triple 𝓤 (Wp.WpFn 𝓤 H (𝓣 .C) (𝓣 .Λ) (Function.fnOf 10 ps r xs m hs body)) (Function.plainOf 𝓤 H A 10 ps r Pre· Post·)
-          spec = Plain.t-fn-plain 𝓤 H A W 𝓣 10 ps r xs m hs body (λ κs qs bs. Φ) (λ κs qs bs bd. typed κs qs 𝓤 H A W 𝓣 known0 bs bd) Pre· Post· asked
+        module _ (κs : Lifetimes.Lfts 12) (qs : Lifetimes.Shares 12) where
+          pub asked : (a : Kinds.Dens κs ps) → (good : Kinds.GoodsP κs ps a) → (pre : Pre· κs a) → (bs : List.List Nat.ℕ) → Φ (Any.wantQ 12 ps r xs m κs qs a (Post· κs a)) (Function.init 12 ps r xs m κs qs a)
+          asked = λ a good pre bs. laid record { κs = κs; args = record { h = a .0; j = a .1 .0; t = a .1 .1 .0; traffic = a .1 .1 .1 .0; from = a .1 .1 .1 .1 .0; to = a .1 .1 .1 .1 .1 .0; load = a .1 .1 .1 .1 .1 .1 .0; starts = a .1 .1 .1 .1 .1 .1 .1 .0; flow-starts = a .1 .1 .1 .1 .1 .1 .1 .1 .0; flow = a .1 .1 .1 .1 .1 .1 .1 .1 .1 .0; line = a .1 .1 .1 .1 .1 .1 .1 .1 .1 .1 .0; fraction = a .1 .1 .1 .1 .1 .1 .1 .1 .1 .1 .1 .0; opposite = a .1 .1 .1 .1 .1 .1 .1 .1 .1 .1 .1 .1 .0; inbox = a .1 .1 .1 .1 .1 .1 .1 .1 .1 .1 .1 .1 .1 .0; quiet = a .1 .1 .1 .1 .1 .1 .1 .1 .1 .1 .1 .1 .1 .1 .0 }; good = good; fits = record { j = record { fits = good .1 .0 .1 } }; pre = pre }
+
+        module _ {M : Type 1} (𝓤 : URA.URA M) (H : Wp.Heap 𝓤) (A : Atoms.Atoms 𝓤) (W : Kit.Given 𝓤 H A) (𝓣 : Wp.Tables 𝓤 H) (known0 : Plain.Known 𝓤 H A W 𝓣 4 ps·0 r·0 (claims· .0) (claims· .1) "links::list") (known1 : Plain.Known 𝓤 H A W 𝓣 11 ps·1 r·1 (claims· .2) (claims· .3) "messages::deliver") where
+          pub spec : Statement.Triple 𝓤 (Wp.WpFn 𝓤 H (𝓣 .C) (𝓣 .Λ) (Function.fnOf 12 ps r xs m hs body)) (Function.plainOf 𝓤 H A 12 ps r Pre· Post·)
+          spec = Plain.t-fn-plain 𝓤 H A W 𝓣 12 ps r xs m hs body (λ κs qs bs. Φ) (λ κs qs bs bd. typed κs qs 𝓤 H A W 𝓣 (known0, known1) bs bd) Pre· Post· asked
