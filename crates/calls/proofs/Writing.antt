@@ -11,11 +11,10 @@ use Rattle.rules.specs.Round.{next}
 use Rattle.numbers.specs.Lines.{LinesOf}
 use Rattle.sheet.specs.declared.SheetHeld.{SheetHeld}
 use Rattle.sheet.specs.Held.{sheetSaid, WriteAsked, FractionsWritten}
-use Rattle.node.specs.Net.{Net}
+use Rattle.node.specs.Net.{Net, Empty}
 use Rattle.node.proofs.Held.{links-few}
-use Rattle.messages.specs.State.{Empty}
 use Rattle.house.specs.House.{GraphHeld}
-use Rattle.round.specs.Calculated.{Ordered, Given, Silent, CalculatedFor}
+use Rattle.round.specs.Calculated.{Ordered, Given, CalculatedFor}
 use Rattle.admit.specs.Opened.{Ready}
 use Rattle.admit.proofs.Lines.{net-ready}
 use Rattle.calls.specs.Written.{ReadyHeld, NextWritten}
@@ -37,9 +36,6 @@ pub loads-in : {h : SheetHeld} {b tr ls xs ss gs ps os ord : List ℕ} → Ready
 loads-in {h} {b} {tr} {ls} held = sym (length-take-le (h .links) ls (omega (arith, links-few (held .ready .graph), held .ready .load-size)))
 
 -- a new inbox
-pub silent : Silent (zeros 512)
-silent = record { size = zeros-long 512; empty = zeros-at 512 }
-
 pub empty : Empty (zeros 512)
 empty = record { size = zeros-long 512; silence = zeros-at 512 }
 

@@ -9,13 +9,13 @@ use lib.ListN.{length, getD, drop, length-map}
 use lib.Seq.{drop-cons, drop-length, ext-getD}
 use lib.Dec.{ltb, leb, eqb, eqb·suc-zero}
 use borrow.Author.Tests.{ltb-true, ltb-false, lt-ltb, eq-eqb, ne-eqb}
-use Rattle.rules.specs.Lists.{keep, exists, total, counted, below}
+use Rattle.rules.specs.Lists.{keep, exists, total, counted, below, flowing}
 use Rattle.rules.specs.Sheet.{whole, largestDelay}
 use Rattle.rules.specs.Desk.{told, Way, heard, delayTold, markTold, carries, cost, weighed, delay, blocks, blocked, message}
 use Rattle.rules.proofs.Lists.{getD-in, in-keep, keep-map, total-le, total-mul, total-map, total-keep, exists-map, below-length, in-below, table-at}
 use Rattle.rules.proofs.Desk.{cut-by-le}
 use Rattle.rules.proofs.Local.{delay-local, blocked-local}
-use Rattle.desk.specs.Ways.{toldOf, wayOf, waysFrom, waysOf, deskWith, flowing, sumOf, Row}
+use Rattle.desk.specs.Ways.{toldOf, wayOf, waysFrom, waysOf, deskWith, sumOf, Row}
 use Rattle.desk.specs.Work.{wayAt, Held, beyond, barrier, cutAt}
 
 -- ---- a word's number; 0 says what it should without a test

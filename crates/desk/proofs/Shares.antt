@@ -10,13 +10,13 @@ use lib.ListN.{length, getD, drop, set, length-map, length-set, List·getD-eq-de
 use lib.Seq.{drop-length, ext-getD, getD-set-same, getD-set-other, set-getD}
 use lib.Dec.{ltb, eqb}
 use borrow.Author.Tests.{ltb-true, ltb-false, ne-eqb}
-use Rattle.rules.specs.Lists.{keep, total, counted, below}
+use Rattle.rules.specs.Lists.{keep, total, counted, below, flowing}
 use Rattle.rules.specs.Sheet.{whole}
 use Rattle.rules.specs.Desk.{Way, Desk, cost, candidate, Best, nothing, best, bestOf, cutBy, cut, fractionWith, newFraction, newRow}
 use Rattle.rules.proofs.Tests.{known, clash, eqb-self}
 use Rattle.rules.proofs.Lists.{in-keep, keep-in, map-eq, total-keep, total-map, total-but, below-length, below-in, table-at}
 use Rattle.rules.proofs.Desk.{cut-by-le, flowing-allowed, best-is, BestIs}
-use Rattle.desk.specs.Ways.{waysOf, deskWith, flowing, Row, Rises}
+use Rattle.desk.specs.Ways.{waysOf, deskWith, Row, Rises}
 use Rattle.desk.specs.Work.{wayAt, Held, choiceAt, lowest, cutAt, shorn, Shorn}
 use Rattle.desk.specs.declared.Choice.{Choice}
 use Rattle.desk.proofs.Places.{wayTo, ways-are, read-back, held, flows-at, flow-small, cost-top, cut-le, back}

@@ -4,9 +4,9 @@ use mathlib.Core.Path.{_≡_}
 use mathlib.Core.Bool.{cond}
 use mathlib.Core.List.{List, [], _∷_}
 use lib.ListN.{length, getD}
-use lib.Dec.{ltb, eqb}
-use Rattle.rules.specs.Lists.{keep, total, below}
-use Rattle.rules.specs.Sheet.{whole}
+use lib.Dec.{eqb}
+use Rattle.rules.specs.Lists.{total, flowing}
+use Rattle.rules.specs.Sheet.{whole, largestStored}
 use Rattle.rules.specs.Desk.{Told, silent, told, Way, Desk}
 use Rattle.desk.specs.declared.Message.{Message}
 
@@ -34,10 +34,6 @@ waysOf fs ls xs ks = waysFrom 0 fs ls xs ks
 abbrev pub deskWith : ℕ → ℕ → List Way → Desk
 deskWith s t ws = record { step = s; traffic = t; ways = ws }
 
--- the places of a row that flow, rising
-abbrev pub flowing : List ℕ → List ℕ
-flowing xs = keep (λ p. ltb 0 (getD xs p 0)) (below (length xs))
-
 abbrev pub sumOf : List ℕ → ℕ
 sumOf xs = total (λ x. x) xs
 
@@ -47,7 +43,7 @@ pub record Row (ls xs ks ps : List ℕ) : Type 0 where
   pub words : length ks ≡ length xs
   pub few : length xs ≤ 512
   pub line-small : (i : ℕ) → getD ls i 0 ≤ 1048576
-  pub told-small : (i : ℕ) → getD ks i 0 / 4 ≤ 63 * 1048576
+  pub told-small : (i : ℕ) → getD ks i 0 / 4 ≤ largestStored
   pub parts : sumOf xs ≤ whole
   pub flow : ps ≡ flowing xs
 

@@ -6,7 +6,7 @@ use mathlib.Core.List.{List, [], _∷_}
 use lib.ListN.{length, getD, set}
 use lib.Dec.{leb, eqb}
 use Rattle.rules.specs.Lists.{total}
-use Rattle.rules.specs.Sheet.{whole, largestDelay}
+use Rattle.rules.specs.Sheet.{whole, largestDelay, largestStored}
 use Rattle.rules.specs.Desk.{Way, markTold, cost, cutBy}
 use Rattle.desk.specs.Ways.{wayOf}
 use Rattle.desk.specs.declared.WayHeld.{WayHeld}
@@ -20,7 +20,7 @@ waySaid w = wayOf 0 (w .line .0) (w .fraction .0) (w .word .0)
 pub record Small (w : WayHeld) : Type 0 where
   pub line : w .line .0 ≤ 1048576
   pub fraction : w .fraction .0 ≤ whole
-  pub told : w .word .0 / 4 ≤ 63 * 1048576
+  pub told : w .word .0 / 4 ≤ largestStored
 
 -- the way at place p of lines, fractions and words
 abbrev pub wayAt : List ℕ → List ℕ → List ℕ → ℕ → Way
@@ -33,7 +33,7 @@ pub record Held (ls xs ks : List ℕ) (p : ℕ) : Type 0 where
   pub inside : p < length xs
   pub line-small : getD ls p 0 ≤ 1048576
   pub fraction-small : getD xs p 0 ≤ whole
-  pub told-small : getD ks p 0 / 4 ≤ 63 * 1048576
+  pub told-small : getD ks p 0 / 4 ≤ largestStored
 
 -- more than any candidate costs
 abbrev pub beyond : ℕ

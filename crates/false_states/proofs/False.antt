@@ -9,7 +9,7 @@ use lib.ListN.{length, getD, set, take, drop, replicate}
 use lib.Seq.{getD-set-same, getD-set-other, take-at}
 use lib.Dec.{eqb}
 use borrow.Author.Tests.{eqb-true}
-use Rattle.rules.specs.Sheet.{Link, Sheet, largestStep}
+use Rattle.rules.specs.Sheet.{Link, Sheet, largestStep, largestStored}
 use Rattle.rules.specs.Bytes.{bytes}
 use Rattle.rules.specs.Judge.{refused, accepted}
 use Rattle.rules.specs.Check.{check}
@@ -23,13 +23,13 @@ use Rattle.desk.specs.Ways.{toldOf, messageSaid}
 use Rattle.sheet.specs.declared.SheetHeld.{SheetHeld}
 use Rattle.sheet.specs.Held.{sheetSaid}
 use Rattle.network.proofs.Rows.{held-length, held-at}
-use Rattle.node.specs.Net.{stateSaid, SmallInbox, Net, RowsRise, Renewed, Lendable}
+use Rattle.node.specs.Net.{stateSaid, SmallInbox, Net, RowsRise, Renewed, Lendable, Empty}
 use Rattle.node.proofs.Held.{state-length, state-at, turns, lendable, far-rise, outcome-held}
 use Rattle.messages.specs.declared.Tally.{Tally}
 use Rattle.messages.specs.declared.Change.{Change}
 use Rattle.messages.specs.declared.Ran.{Ran}
 use Rattle.messages.specs.declared.Ran.the-variants.{Stopped, Left}
-use Rattle.messages.specs.State.{Kept, LinkAt, Counted, stepOf, Spare, Stored, Empty, Begun}
+use Rattle.messages.specs.State.{Kept, LinkAt, Counted, stepOf, Spare, Stored, Begun}
 use Rattle.messages.specs.Round.{Deliverable, Delivered, ListRun}
 use Rattle.messages.proofs.Beginning.{state-start, begun-kept}
 use Rattle.messages.proofs.Storing.{link-at, counted-kept, spare-kept}
@@ -43,7 +43,7 @@ use Rattle.play.specs.Played.{AnyAccepted}
 use Rattle.play.proofs.Playing.{nothing, lined-net}
 use Rattle.false_states.specs.declared.Question.{Question}
 use Rattle.false_states.specs.declared.Follows.{Follows}
-use Rattle.false_states.specs.False.{largestStored, carriedBy, takenBy, Placed, Word, SentAsked, Sent, RowsAsked, RowsTaken, SentWith, TakenWith, wordSaid, FollowedBy, Followed, sentBy, rowBy, everything}
+use Rattle.false_states.specs.False.{carriedBy, takenBy, Placed, Word, SentAsked, Sent, RowsAsked, RowsTaken, SentWith, TakenWith, wordSaid, FollowedBy, Followed, sentBy, rowBy, everything}
 
 told-delay : (x : ℕ) → delayTold (toldOf x) ≡ x / 4
 told-delay x = go (eqb x 0) refl

@@ -4,7 +4,7 @@ use mathlib.Core.Path.{_≡_}
 use mathlib.Core.Bool.{Bool, true, false}
 use mathlib.Core.List.{List, [], _∷_, map}
 use lib.ListN.{length, getD, set}
-use Rattle.rules.specs.Sheet.{Sheet}
+use Rattle.rules.specs.Sheet.{Sheet, largestStored}
 use Rattle.rules.specs.Judge.{accepted}
 use Rattle.rules.specs.Check.{check}
 use Rattle.rules.specs.Desk.{Told, silent, told, message}
@@ -14,8 +14,7 @@ use Rattle.desk.specs.declared.Message.{Message}
 use Rattle.desk.specs.Ways.{toldOf, messageSaid}
 use Rattle.sheet.specs.declared.SheetHeld.{SheetHeld}
 use Rattle.sheet.specs.Held.{sheetSaid}
-use Rattle.node.specs.Net.{Net}
-use Rattle.messages.specs.State.{Empty}
+use Rattle.node.specs.Net.{Net, Empty}
 use Rattle.messages.specs.Round.{NetHeld}
 use Rattle.admit.specs.Opened.{Ready}
 use Rattle.false_states.specs.declared.Question.{Question}
@@ -36,10 +35,6 @@ takenBy s st j w = outcome s (set st j w)
 pub record Placed (j : ℕ) (os inbox : List ℕ) : Type 0 where
   pub link : j < length os
   pub place : getD os j 0 < length inbox
-
--- the largest delay of a stored word that the statements of one delivery speak of
-abbrev pub largestStored : ℕ
-largestStored = 63 * 1048576
 
 -- a word that is told, with such a delay
 pub record Word (w : ℕ) : Type 0 where

@@ -17,10 +17,11 @@ ghost use mathlib.Core.Path.{_≡_};
 ghost use mathlib.Core.List.{[], _∷_};
 ghost use Prim.Native.Nat.{_+_, _*_, _≤_, _<_};
 ghost use lib.ListN.{length, getD};
+ghost use Rattle.rules.specs.Sheet.{largestStored};
 ghost use Rattle.rules.specs.Plates.{plateA};
 ghost use Rattle.desk.specs.Ways.{toldOf};
 ghost use Rattle.play.specs.Played.{AnyAccepted};
-ghost use Rattle.false_states.specs.False.{largestStored, Placed, SentAsked, Sent, RowsAsked, RowsTaken, SentWith, TakenWith, Followed, wordSaid, sentBy, rowBy, everything};
+ghost use Rattle.false_states.specs.False.{Placed, SentAsked, Sent, RowsAsked, RowsTaken, SentWith, TakenWith, Followed, wordSaid, sentBy, rowBy, everything};
 
 // The largest delay of a stored word that the statements of one delivery speak of.
 const LARGEST_STORED: u32 = 63 * 1_048_576;

@@ -23,11 +23,11 @@ use Rattle.sheet.specs.declared.SheetHeld.{SheetHeld}
 use Rattle.sheet.specs.Held.{sheetSaid}
 use Rattle.network.specs.Rows.{Flow}
 use Rattle.network.proofs.Rows.{held-length, rising-sorted}
-use Rattle.node.specs.Net.{stateSaid, Graph, Net}
+use Rattle.node.specs.Net.{stateSaid, Graph, Net, Empty}
 use Rattle.node.proofs.Held.{state-length, links-few}
 use Rattle.messages.specs.declared.Tally.{Tally}
 use Rattle.messages.specs.declared.Change.{Change}
-use Rattle.messages.specs.State.{waitingAt, stepOf, Kept, LinkAt, Counted, Stored, Empty, RowsAt, Begun}
+use Rattle.messages.specs.State.{waitingAt, stepOf, Kept, LinkAt, Counted, Stored, RowsAt, Begun}
 use Rattle.messages.proofs.Counts.{heard-set}
 use Rattle.messages.proofs.Storing.{from-in, waits-kept, link-at, counted-kept}
 use Rattle.messages.proofs.Beginning.{rows-at, state-start, begun-kept}

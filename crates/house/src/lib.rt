@@ -5,7 +5,8 @@ use sheet::SheetHeld;
 ghost use mathlib.Core.Path.{_≡_};
 ghost use Prim.Native.Nat.{_+_, _-_, _^_, _≤_, _<_};
 ghost use lib.ListN.{length};
-ghost use Rattle.messages.specs.State.{LinkAt, Counted, Empty};
+ghost use Rattle.node.specs.Net.{Empty};
+ghost use Rattle.messages.specs.State.{LinkAt, Counted};
 ghost use Rattle.house.specs.Nodes.{digit, With, Without, FirstIn};
 ghost use Rattle.house.specs.House.{LinksAt, NextFrom, Searchable, Found, ChosenStored, GraphHeld, HouseWritten};
 

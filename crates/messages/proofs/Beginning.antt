@@ -21,10 +21,10 @@ use Rattle.sheet.specs.Held.{sheetSaid}
 use Rattle.network.specs.Rows.{part}
 use Rattle.network.proofs.Rows.{part-length, part-getD}
 use Rattle.network.proofs.Rows.{held-length}
-use Rattle.node.specs.Net.{stateSaid, Net}
+use Rattle.node.specs.Net.{stateSaid, Net, Empty}
 use Rattle.node.proofs.Held.{state-length, state-at, links-few}
 use Rattle.messages.specs.declared.Tally.{Tally}
-use Rattle.messages.specs.State.{isSilent, isSilentFlow, rowNumbers, quietOf, statusBy, Kept, rowQuiet, Empty, RowsAt, Begun}
+use Rattle.messages.specs.State.{isSilent, isSilentFlow, rowNumbers, quietOf, statusBy, Kept, rowQuiet, RowsAt, Begun}
 use Rattle.messages.proofs.Counts.{count-all, count-kept}
 use Rattle.messages.proofs.Status.{and-true, finished-by}
 

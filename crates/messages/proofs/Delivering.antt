@@ -8,7 +8,7 @@ use mathlib.Core.List.{List}
 use lib.ListN.{length, getD, set}
 use lib.Dec.{eqb}
 use borrow.Author.Tests.{eqb-true}
-use Rattle.rules.specs.Sheet.{Link, Sheet, largestStep}
+use Rattle.rules.specs.Sheet.{Link, Sheet, largestStep, largestStored}
 use Rattle.rules.specs.Desk.{Told, silent, told, heard, delayTold, message}
 use Rattle.rules.specs.Messages.{desk, linkOf, sender}
 use Rattle.rules.proofs.Right.{Right}
@@ -92,11 +92,11 @@ module _ {h : SheetHeld} {tr fs ts ls xs ss os inbox qs : List ℕ} {t : Tally} 
       at-place : k < h .links → toldOf (getD inbox k 0) ≡ getD (stateSaid (h .links) os inbox) (getD os k 0) silent
       at-place a = sym (state-at (h .links) os inbox (getD os k 0) (kept .graph .opposites .low k a) ∙ ap (λ (x : ℕ). toldOf (getD inbox x 0)) (turns (kept .graph) k a))
 
-      small : (w : Told) → (heard w ≡ true → delayTold w ≤ 63 * 1048576) → delayTold w ≤ 63 * 1048576
+      small : (w : Told) → (heard w ≡ true → delayTold w ≤ largestStored) → delayTold w ≤ largestStored
       small silent f = omega arith
       small (told m b) f = f refl
 
-      go : Dec (k < h .links) → getD inbox k 0 / 4 ≤ 63 * 1048576
+      go : Dec (k < h .links) → getD inbox k 0 / 4 ≤ largestStored
       go (no n) = let z = kept .beyond k (omega arith) in rw z (omega arith)
       go (yes a) =
           let o : getD os k 0 < h .links = kept .graph .opposites .low k a in

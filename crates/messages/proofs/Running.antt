@@ -16,11 +16,11 @@ use Rattle.rules.proofs.Run.{run-right}
 use Rattle.sheet.specs.declared.SheetHeld.{SheetHeld}
 use Rattle.sheet.specs.Held.{sheetSaid}
 use Rattle.network.proofs.Rows.{held-length}
-use Rattle.node.specs.Net.{stateSaid, SmallInbox, Net}
+use Rattle.node.specs.Net.{stateSaid, SmallInbox, Net, Empty}
 use Rattle.messages.specs.declared.Tally.{Tally}
 use Rattle.messages.specs.declared.Ran.{Ran}
 use Rattle.messages.specs.declared.Ran.the-variants.{Stopped, Left}
-use Rattle.messages.specs.State.{waitingAt, refusalAt, Kept, LinkAt, Empty, Begun}
+use Rattle.messages.specs.State.{waitingAt, refusalAt, Kept, LinkAt, Begun}
 use Rattle.messages.specs.Round.{Deliverable, Delivered, NetHeld, ListRun}
 use Rattle.messages.proofs.Storing.{waits-kept, link-at}
 use Rattle.messages.proofs.Beginning.{state-start, begun-kept}

@@ -122,11 +122,6 @@ pub record Alike (count : ℕ) (fs gs : List ℕ) : Type 0 where
 abbrev pub rowQuiet : List ℕ → List ℕ → ℕ → ℕ
 rowQuiet ss gs i = (getD ss (i + 1) 0 - getD ss i 0) * 1024 + (getD gs (i + 1) 0 - getD gs i 0)
 
--- nothing was delivered
-pub record Empty (inbox : List ℕ) : Type 0 where
-  pub size : length inbox ≡ 512
-  pub silence : (k : ℕ) → getD inbox k 0 ≡ 0
-
 -- where the rows of n nodes and their flowing places begin, and room for their counts
 pub record RowsAt (n : ℕ) (ss gs qs : List ℕ) : Type 0 where
   pub few : n ≤ 64

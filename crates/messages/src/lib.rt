@@ -10,7 +10,8 @@ ghost use lib.Dec.{ltb, eqb};
 ghost use lib.ListN.{length, getD};
 ghost use Rattle.rules.specs.Lists.{bit};
 ghost use Rattle.links.specs.List.{froms, fractions};
-ghost use Rattle.messages.specs.State.{AlikeAt, statusBy, waitsBy, fewer, changeOf, stepOf, LinkAt, waitingAt, refusalAt, Spare, CountedAt, Counted, StoredAt, Stored, rowQuiet, Empty, RowsAt, Begun};
+ghost use Rattle.node.specs.Net.{Empty};
+ghost use Rattle.messages.specs.State.{AlikeAt, statusBy, waitsBy, fewer, changeOf, stepOf, LinkAt, waitingAt, refusalAt, Spare, CountedAt, Counted, StoredAt, Stored, rowQuiet, RowsAt, Begun};
 ghost use Rattle.messages.specs.declared.Ran.the-variants.{Left};
 ghost use Rattle.messages.specs.Round.{Deliverable, Delivered, NetHeld, ListRun};
 

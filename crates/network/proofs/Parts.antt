@@ -7,9 +7,9 @@ use mathlib.Core.List.{List, [], _∷_, _++_, append-nil, List·Memᴰ as In, Li
 use lib.ListN.{length, getD, take, drop, set, length-append, length-drop, length-set, List·getD-append}
 use lib.Seq.{take-suc, drop-cons, take-take, getD-drop, getD-append-seam, getD-set-same, take-set-le}
 use lib.Dec.{ltb}
-use Rattle.rules.specs.Lists.{keep, total, bit, counted, below}
+use Rattle.rules.specs.Lists.{keep, total, bit, counted, below, flowing}
 use Rattle.rules.proofs.Lists.{below-last, in-below}
-use Rattle.network.specs.Rows.{part, flowing}
+use Rattle.network.specs.Rows.{part}
 
 -- ---- part
 pub part-none : (xs : List ℕ) (a : ℕ) → part xs a a ≡ []

@@ -10,14 +10,14 @@ use lib.ListN.{length, getD, take, set, length-set}
 use lib.Seq.{getD-set-same, getD-set-other, take-set-le}
 use lib.Dec.{ltb, eqb}
 use borrow.Author.Count.{below-more}
-use Rattle.rules.specs.Lists.{total, bit, below, Place, nowhere, at, firstFrom, first}
+use Rattle.rules.specs.Lists.{total, bit, below, Place, nowhere, at, firstFrom, first, flowing}
 use Rattle.rules.specs.Sheet.{whole, rowOf}
 use Rattle.rules.proofs.Tests.{bit-one}
 use Rattle.rules.proofs.Lists.{total-append, below-last, below-length}
 use Rattle.sheet.specs.Held.{held, foundSaid}
 use Rattle.sheet.specs.declared.HeadHeld.{HeadHeld}
 use Rattle.sheet.specs.declared.Found.{Found}
-use Rattle.network.specs.Rows.{part, flowing, Sorted, Rows, Flow}
+use Rattle.network.specs.Rows.{part, Sorted, Rows, Flow}
 use Rattle.network.specs.Answers.{RowTo, RowSurveyed, orElse, wrongSum, Surveyed}
 use Rattle.network.specs.declared.RowHeld.{RowHeld}
 use Rattle.network.proofs.Parts.{part-none, part-more, part-kept, part-fill, flowing-more}

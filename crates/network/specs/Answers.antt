@@ -5,14 +5,14 @@ use mathlib.Core.Bool.{cond, not}
 use mathlib.Core.List.{List}
 use lib.ListN.{length, getD, take}
 use lib.Dec.{eqb}
-use Rattle.rules.specs.Lists.{total, below, Place, nowhere, at, first}
+use Rattle.rules.specs.Lists.{total, below, Place, nowhere, at, first, flowing}
 use Rattle.rules.specs.Sheet.{whole}
 use Rattle.rules.specs.Judge.{adds}
 use Rattle.rules.specs.Check.{sheetWith}
 use Rattle.sheet.specs.Held.{headSaid, held, foundSaid}
 use Rattle.sheet.specs.declared.HeadHeld.{HeadHeld}
 use Rattle.sheet.specs.declared.Found.{Found}
-use Rattle.network.specs.Rows.{part, flowing, Rows, Flow}
+use Rattle.network.specs.Rows.{part, Rows, Flow}
 use Rattle.network.specs.declared.RowHeld.{RowHeld}
 
 -- ---- rows

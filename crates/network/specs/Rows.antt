@@ -3,16 +3,11 @@ use Prim.Native.Nat.{ℕ, _+_, _-_, _≤_, _<_}
 use mathlib.Core.Path.{_≡_}
 use mathlib.Core.List.{List}
 use lib.ListN.{length, getD, take, drop}
-use lib.Dec.{ltb}
-use Rattle.rules.specs.Lists.{keep, below}
+use Rattle.rules.specs.Lists.{flowing}
 
 -- what stands from a up to e
 abbrev pub part : List ℕ → ℕ → ℕ → List ℕ
 part xs a e = take (e - a) (drop a xs)
-
--- the places of a row that flow, rising
-abbrev pub flowing : List ℕ → List ℕ
-flowing xs = keep (λ p. ltb 0 (getD xs p 0)) (below (length xs))
 
 -- links sorted by from, which is below n
 pub record Sorted (n count : ℕ) (fs : List ℕ) : Type 0 where

@@ -7,7 +7,7 @@ use mathlib.Core.List.{List, [], _∷_, map, map-map, List·Memᴰ as In}
 use lib.ListN.{length, getD, take, drop, set, length-take, length-set, length-map, List·getD-eq-default}
 use lib.Seq.{ext-getD, getD-take, getD-set-same, getD-set-other}
 use Rattle.rules.specs.Lists.{total, counted, below}
-use Rattle.rules.specs.Sheet.{Link, Sheet, whole, rowOf, trafficOf, lineDelay, withFraction, withLinks}
+use Rattle.rules.specs.Sheet.{Link, Sheet, whole, rowOf, trafficOf, lineDelay, withFraction, withLinks, largestStored}
 use Rattle.rules.specs.Desk.{Told, silent, told, Way, Desk, newRow, newFraction, message}
 use Rattle.rules.specs.Round.{wayOf, deskOf, newLink, rerouted}
 use Rattle.rules.specs.Messages.{State, back, desk, deliver, outcome, sender, noLink, linkOf}
@@ -182,7 +182,7 @@ module _ {h : SheetHeld} {tr fs ts ls xs ss gs ps os line : List ℕ} (net : Net
         words = part-length inbox a e (omega (arith, end-in, links-few (net .graph))) ∙ sym wide;
         few = omega (arith, wide, end-in, links-few (net .graph));
         line-small = part-all (λ (x : ℕ). x ≤ 1048576) (omega arith) line (net .line-small) a e;
-        told-small = part-all (λ (x : ℕ). x / 4 ≤ 63 * 1048576) (omega arith) inbox small a e;
+        told-small = part-all (λ (x : ℕ). x / 4 ≤ largestStored) (omega arith) inbox small a e;
         parts = omega (arith, row-sum (net .graph .rows) low ts ls xs (omega (arith, links-few (net .graph), net .graph .fraction-size)), net .graph .sound .sums i low, due-le s i);
         flow = net .flow .places i low;
       };

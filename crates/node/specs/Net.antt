@@ -4,7 +4,7 @@ use mathlib.Core.Path.{_≡_}
 use mathlib.Core.List.{List, map}
 use lib.ListN.{length, getD}
 use Rattle.rules.specs.Lists.{below}
-use Rattle.rules.specs.Sheet.{Sheet, largestDelay, lineDelay}
+use Rattle.rules.specs.Sheet.{Sheet, largestDelay, lineDelay, largestStored}
 use Rattle.rules.specs.Desk.{Desk, message, newRow}
 use Rattle.rules.specs.Messages.{State}
 use Rattle.rules.proofs.Sound.{Sound}
@@ -57,9 +57,14 @@ pub record RowTaken (ss : List ℕ) (i : ℕ) (xs new ys : List ℕ) : Type 0 wh
 abbrev pub stateSaid : ℕ → List ℕ → List ℕ → State
 stateSaid count os inbox = map (λ j. toldOf (getD inbox (getD os j 0) 0)) (below count)
 
+-- nothing was told yet
+pub record Empty (inbox : List ℕ) : Type 0 where
+  pub size : length inbox ≡ 512
+  pub silence : (k : ℕ) → getD inbox k 0 ≡ 0
+
 -- stored delays of at most 63 × 1,048,576
 abbrev pub SmallInbox : List ℕ → Type 0
-SmallInbox inbox = (k : ℕ) → getD inbox k 0 / 4 ≤ 63 * 1048576
+SmallInbox inbox = (k : ℕ) → getD inbox k 0 / 4 ≤ largestStored
 
 -- the slices hold a sound sheet, its rows and each link's opposite
 pub record Graph (h : SheetHeld) (tr fs ts ls xs ss os : List ℕ) : Type 0 where

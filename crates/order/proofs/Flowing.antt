@@ -8,11 +8,11 @@ use lib.ListN.{length, getD}
 use lib.Dec.{ltb}
 use borrow.Author.Count.{below-more}
 use borrow.Author.Tests.{ltb-true, lt-ltb}
-use Rattle.rules.specs.Lists.{below}
+use Rattle.rules.specs.Lists.{below, flowing}
 use Rattle.rules.proofs.Tests.{and-gives}
 use Rattle.rules.proofs.Lists.{getD-in, in-keep, keep-in, in-below, below-in}
 use Rattle.sheet.specs.declared.HeadHeld.{HeadHeld}
-use Rattle.network.specs.Rows.{part, flowing}
+use Rattle.network.specs.Rows.{part}
 use Rattle.network.proofs.Rows.{part-length, part-getD}
 use Rattle.order.specs.Order.{Graph, Falling, Order}
 use Rattle.order.specs.Inside.{RowAt, Rowed, RowFalls, RowsFall, Tested}

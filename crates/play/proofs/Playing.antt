@@ -19,12 +19,11 @@ use Rattle.numbers.specs.Lines.{LinesOf}
 use Rattle.sheet.specs.declared.SheetHeld.{SheetHeld}
 use Rattle.sheet.specs.Held.{held, sheetSaid, FractionsWritten}
 use Rattle.network.proofs.Rows.{held-length}
-use Rattle.node.specs.Net.{stateSaid, Net, RowsRise, Renewed}
+use Rattle.node.specs.Net.{stateSaid, Net, RowsRise, Renewed, Empty}
 use Rattle.node.proofs.Held.{links-few, outcome-held, lendable, far-rise}
 use Rattle.messages.specs.declared.Ran.{Ran}
 use Rattle.messages.specs.declared.Ran.the-variants.{Stopped, Left}
 use Rattle.messages.specs.declared.Tally.{Tally}
-use Rattle.messages.specs.State.{Empty}
 use Rattle.messages.specs.Round.{NetHeld, ListRun}
 use Rattle.messages.proofs.Running.{run-small}
 use Rattle.frames.specs.Frames.{FramesAsked, FramesWritten}

@@ -4,7 +4,7 @@ use sheet::SheetHeld;
 ghost use mathlib.Core.Path.{_≡_};
 ghost use Prim.Native.Nat.{_*_, _≤_};
 ghost use lib.ListN.{length};
-ghost use Rattle.messages.specs.State.{Empty};
+ghost use Rattle.node.specs.Net.{Empty};
 ghost use Rattle.play.specs.Played.{Accepted, AnyAccepted, Lined, Takable, Ended, Played, Framed};
 
 // Number 0 and the value answered, or a refusal's number and its place.

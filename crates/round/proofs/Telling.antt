@@ -9,7 +9,7 @@ use lib.ListN.{length, getD, set, length-set}
 use lib.Seq.{getD-set-same, getD-set-other}
 use borrow.Author.Tests.{ltb-true}
 use Rattle.rules.specs.Lists.{below}
-use Rattle.rules.specs.Sheet.{Link, Sheet, largestStep, flows}
+use Rattle.rules.specs.Sheet.{Link, Sheet, largestStep, flows, largestStored}
 use Rattle.rules.specs.Desk.{silent, heard, delayTold, message, status}
 use Rattle.rules.specs.Round.{fullDesk}
 use Rattle.rules.specs.Messages.{State, back, desk, linkOf}
@@ -25,9 +25,9 @@ use Rattle.desk.proofs.Places.{delay-is}
 use Rattle.sheet.specs.declared.SheetHeld.{SheetHeld}
 use Rattle.sheet.specs.Held.{heldAt, sheetSaid}
 use Rattle.network.proofs.Rows.{held-length, held-at}
-use Rattle.node.specs.Net.{RowAt, Tells, RowsRise, stateSaid, SmallInbox, Lendable, Renewed}
+use Rattle.node.specs.Net.{RowAt, Tells, RowsRise, stateSaid, SmallInbox, Lendable, Renewed, Empty}
 use Rattle.node.proofs.Held.{state-length, state-at, links-few, turns, back-held, held-in, desk-held, row-held, outcome-held, far-rise, lendable}
-use Rattle.round.specs.Calculated.{Tellable, Noted, Ordered, Given, Silent, AllTold, Calculated, ToldFor, CalculatedFor}
+use Rattle.round.specs.Calculated.{Tellable, Noted, Ordered, Given, AllTold, Calculated, ToldFor, CalculatedFor}
 
 -- ---- one node tells its word
 pub noted-none : (a : ℕ) (os : List ℕ) (w : ℕ) (xs : List ℕ) → Noted a a os w xs xs
@@ -75,12 +75,12 @@ module _ {h : SheetHeld} {tr fs ts ls xs ss gs ps os line ord turn : List ℕ} (
   from-low : (j : ℕ) → j < h .links → getD fs j 0 < h .head .nodes
   from-low j a = ok .fits (heldAt fs ts ls xs j) (held-in (given .net .graph) j a) .from-in
 
-  pub told-none : {inbox : List ℕ} → Silent inbox → ToldTo h tr fs ts ls xs os turn 0 inbox
+  pub told-none : {inbox : List ℕ} → Empty inbox → ToldTo h tr fs ts ls xs os turn 0 inbox
   told-none quiet = record {
     size = quiet .size;
     word = λ j a b. absurd (omega arith);
-    still = λ j a b. quiet .empty (getD os j 0);
-    rest = λ p b. quiet .empty p;
+    still = λ j a b. quiet .silence (getD os j 0);
+    rest = λ p b. quiet .silence p;
   }
 
   module _ {k : ℕ} {inbox : List ℕ} (so : ToldTo h tr fs ts ls xs os turn k inbox) where
@@ -114,7 +114,7 @@ module _ {h : SheetHeld} {tr fs ts ls xs ss gs ps os line ord turn : List ℕ} (
     pub told-small : SmallInbox inbox
     told-small p = go (decLt p (h .links)) (decLt (getD turn (getD ts p 0) 0) k)
       where
-        go : Dec (p < h .links) → Dec (getD turn (getD ts p 0) 0 < k) → getD inbox p 0 / 4 ≤ 63 * 1048576
+        go : Dec (p < h .links) → Dec (getD turn (getD ts p 0) 0 < k) → getD inbox p 0 / 4 ≤ largestStored
         go (yes a) (yes b) =
             omega (
               arith,
@@ -236,7 +236,7 @@ pub record Telling (h : SheetHeld) (tr xs ss gs ps os line ord : List ℕ) (k : 
   pub so-far : (fs ts ls turn : List ℕ) → Ordered h tr fs ts ls xs ss gs ps os line ord turn → ToldTo h tr fs ts ls xs os turn k inbox
 
 module _ {h : SheetHeld} {tr xs ss gs ps os line ord : List ℕ} where
-  pub telling-none : {inbox : List ℕ} → Silent inbox → Telling h tr xs ss gs ps os line ord 0 inbox
+  pub telling-none : {inbox : List ℕ} → Empty inbox → Telling h tr xs ss gs ps os line ord 0 inbox
   telling-none quiet = record { size = quiet .size; so-far = λ fs ts ls turn o. told-none o quiet }
 
   pub telling-all : {k : ℕ} {inbox : List ℕ} → Telling h tr xs ss gs ps os line ord k inbox → h .head .nodes ≤ k → ToldFor h tr xs ss gs ps os line ord inbox

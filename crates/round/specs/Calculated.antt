@@ -41,11 +41,6 @@ pub record Given (h : SheetHeld) (tr xs ss gs ps os line ord : List ℕ) : Type 
   pub turn : List ℕ
   pub ordered : Ordered h tr from to load xs ss gs ps os line ord turn
 
--- nothing was told yet
-pub record Silent (inbox : List ℕ) : Type 0 where
-  pub size : length inbox ≡ 512
-  pub empty : (p : ℕ) → getD inbox p 0 ≡ 0
-
 -- every node has told all its neighbours the calculation's word
 pub record AllTold (h : SheetHeld) (tr fs ts ls xs os inbox : List ℕ) : Type 0 where
   pub size : length inbox ≡ 512

@@ -5,7 +5,8 @@ use numbers::Traffic;
 use sheet::SheetHeld;
 ghost use Prim.Native.Nat.{_+_};
 ghost use lib.ListN.{getD};
-ghost use Rattle.round.specs.Calculated.{Tellable, Noted, Given, Silent, ToldFor, CalculatedFor};
+ghost use Rattle.node.specs.Net.{Empty};
+ghost use Rattle.round.specs.Calculated.{Tellable, Noted, Given, ToldFor, CalculatedFor};
 
 // Node i's word is noted for each of its neighbours: at the link that leads back to it.
 fn tell(i: u8, w: Told, starts: &[u16], opposite: &[u16], inbox: &mut [u32])
@@ -35,7 +36,7 @@ pub fn tell_all(
     opposite: &[u16],
     inbox: &mut [u32],
 )
-    requires { ⌜ Given h (now traffic) (now fraction) (now starts) (now «flow_starts») (now flow) (now opposite) (now line) (now order) × Silent (now inbox) ⌝ }
+    requires { ⌜ Given h (now traffic) (now fraction) (now starts) (now «flow_starts») (now flow) (now opposite) (now line) (now order) × Empty (now inbox) ⌝ }
     ensures { λ _. ⌜ ToldFor h (now (traffic .entry)) (now (fraction .entry)) (now (starts .entry)) (now («flow_starts» .entry)) (now (flow .entry)) (now (opposite .entry)) (now (line .entry)) (now (order .entry)) (now (inbox .exit)) ⌝ }
 {
     let n = h.head.nodes;
@@ -72,7 +73,7 @@ pub fn next_fractions(
     inbox: &mut [u32],
     fraction: &mut [u32],
 )
-    requires { ⌜ Given h (now traffic) (now fraction) (now starts) (now «flow_starts») (now flow) (now opposite) (now line) (now order) × Silent (now inbox) ⌝ }
+    requires { ⌜ Given h (now traffic) (now fraction) (now starts) (now «flow_starts») (now flow) (now opposite) (now line) (now order) × Empty (now inbox) ⌝ }
     ensures { λ _. ⌜ CalculatedFor h (now (traffic .entry)) (now (fraction .entry)) (now (starts .entry)) (now («flow_starts» .entry)) (now (flow .entry)) (now (opposite .entry)) (now (line .entry)) (now (order .entry)) (now (fraction .exit)) ⌝ }
 {
     tell_all(

@@ -10,7 +10,7 @@ use lib.Seq.{getD-set-same, getD-set-other}
 use lib.Dec.{eqb}
 use borrow.Author.Tests.{le-ltb}
 use Rattle.rules.specs.Lists.{total, bit, below, at}
-use Rattle.rules.specs.Sheet.{Link, Sheet, whole, largestDelay, flows, opposite, rowOf, trafficOf, lineDelay, withFraction}
+use Rattle.rules.specs.Sheet.{Link, Sheet, whole, largestDelay, largestStored, flows, opposite, rowOf, trafficOf, lineDelay, withFraction}
 use Rattle.rules.specs.Bytes.{AreBytes, bytes}
 use Rattle.rules.specs.Loop.{Leads, onLoop}
 use Rattle.rules.specs.Judge.{refused, accepted, rowSum, due, judge}
@@ -158,7 +158,7 @@ module _ (s : Sheet) (ok : Sound s) where
   pub MD-low : (i : ℕ) → i < s .nodes → i ≢ s .destination → 16 ≤ MD s i
   MD-low = delay-low ok
 
-  pub MD-top : (i : ℕ) → i < s .nodes → MD s i ≤ 63 * 1048576
+  pub MD-top : (i : ℕ) → i < s .nodes → MD s i ≤ largestStored
   MD-top = delay-top ok
 
   pub c-top : (l : Link) → In l (s .links) → c s l ≤ largestDelay
@@ -352,7 +352,7 @@ module _ (s : Sheet) (ok : Sound s) where
   tally st j z a q = (deliver-count s st j z a q, finished-waits ok st j a q)
 
   -- stored delays of at most 63 × 1,048,576, false ones too, keep every c and every MD that a node works out within the largest delay
-  pub state-bounds : (st : State) → ((k : ℕ) → delayTold (getD st k silent) ≤ 63 * 1048576)
+  pub state-bounds : (st : State) → ((k : ℕ) → delayTold (getD st k silent) ≤ largestStored)
       → ((l : Link) → cost (wayOf (back (s .links) st) l) ≤ largestDelay) × ((i : ℕ) → i < s .nodes → delay (desk s st i) ≤ largestDelay)
   state-bounds st small = (state-cost-top ok st small, state-delay-top ok st small)
 

@@ -1,6 +1,6 @@
 use native.Mathlib.Omega.{arith}
 use Rattle.node.proofs.Held.{links-few}
-use Rattle.calls.proofs.Writing.{loads-in, silent, to-calculate, to-write, next-written}
+use Rattle.calls.proofs.Writing.{loads-in, empty, to-calculate, to-write, next-written}
 use borrow.Author.Needs.{needs}
 use Rattle.calls.proofs.write_next.Statement.{statement}
 use Rattle.calls.proofs.write_next.Tie as tie
@@ -32,7 +32,7 @@ slice-aggregate-next-fractions-2 c = search needs
 
 -- src/lib.rt:137:5
 next-fractions-requires : tie.Need-next-fractions-requires
-next-fractions-requires c κs = (to-calculate (c .before .before .before .before .write-line-delays .ensures) (c .before .before .before .before .before .before .before .before .before .before .before .before .before .before .before .before .before .pre .0), silent)
+next-fractions-requires c κs = (to-calculate (c .before .before .before .before .write-line-delays .ensures) (c .before .before .before .before .before .before .before .before .before .before .before .before .before .before .before .before .before .pre .0), empty)
 
 -- src/lib.rt:149:5
 write-fractions-requires : tie.Need-write-fractions-requires
