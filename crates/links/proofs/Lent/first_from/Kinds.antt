@@ -1,4 +1,4 @@
--- The kinds of the parameters and the result of `links::first_from`. Made by tools/forms.
+-- The kinds of the parameters and the result of `links::first_from`. Made by tools/forms: 41a05d6a81a965ea.
 use borrow.Fn.Kinds
 use borrow.Kind.ShrSlice
 use mathlib.Core.List

@@ -1,4 +1,4 @@
--- The reading of the contract of `links::first_from`. Made by tools/forms.
+-- The reading of the contract of `links::first_from`. Made by tools/forms: 41a05d6a81a965ea.
 use Rattle.links.proofs.first_from
 use Rattle.links.proofs.Lent.first_from.Kinds
 use base.Logic

@@ -1,4 +1,4 @@
--- The kinds of the parameters and the result of `links::link_at`. Made by tools/forms.
+-- The kinds of the parameters and the result of `links::link_at`. Made by tools/forms: b0b1e6247e2df36c.
 use borrow.Fn.Kinds
 use borrow.Kind.ShrSlice
 use mathlib.Core.List

@@ -1,4 +1,4 @@
--- The kinds of the parameters and the result of `links::row_of`. Made by tools/forms.
+-- The kinds of the parameters and the result of `links::row_of`. Made by tools/forms: b3a99feaba090f36.
 use Rattle.links.proofs.RowRange
 use Rattle.links.proofs.RowRange.Laws
 use borrow.Fn.Kinds

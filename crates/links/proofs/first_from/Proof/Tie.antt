@@ -1,4 +1,4 @@
--- The needs, at its contract, of `links::first_from`. Made by tools/forms.
+-- The needs, at its contract, of `links::first_from`. Made by tools/forms: 41a05d6a81a965ea.
 use Rattle.links.proofs.first_from.Code
 use Rattle.links.proofs.first_from.Key
 use Rattle.links.proofs.Lent.first_from.Kinds

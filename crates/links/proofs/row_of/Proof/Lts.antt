@@ -1,4 +1,4 @@
--- The steps of `links::row_of`. Made by tools/forms.
+-- The steps of `links::row_of`. Made by tools/forms: b3a99feaba090f36.
 use Prim.Native.Nat
 use Rattle.links.proofs.RowRange
 use Rattle.links.proofs.RowRange.Laws

@@ -1,4 +1,4 @@
--- The needs, at its contract, of `links::row_of`. Made by tools/forms.
+-- The needs, at its contract, of `links::row_of`. Made by tools/forms: b3a99feaba090f36.
 use Rattle.links.proofs.first_from.Met
 use Rattle.links.proofs.Lent.first_from.Reads
 use Rattle.links.proofs.first_from.Symbol

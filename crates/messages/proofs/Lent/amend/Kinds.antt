@@ -1,4 +1,4 @@
--- The kinds of the parameters and the result of `messages::amend`. Made by tools/forms.
+-- The kinds of the parameters and the result of `messages::amend`. Made by tools/forms: 46c2f3b168abab10.
 use Rattle.messages.proofs.Change
 use Rattle.messages.proofs.Change.Laws
 use borrow.Fn.Kinds

@@ -1,4 +1,4 @@
--- The reading of the contract of `messages::amend`. Made by tools/forms.
+-- The reading of the contract of `messages::amend`. Made by tools/forms: 46c2f3b168abab10.
 use Rattle.messages.proofs.amend
 use Rattle.messages.proofs.Lent.amend.Kinds
 use base.Logic

@@ -1,4 +1,4 @@
--- The kinds of the parameters and the result of `messages::deliver`. Made by tools/forms.
+-- The kinds of the parameters and the result of `messages::deliver`. Made by tools/forms: 195f6a133d91d538.
 use Rattle.sheet.proofs.SheetHeld
 use Rattle.sheet.proofs.SheetHeld.Laws
 use borrow.Fn.Kinds

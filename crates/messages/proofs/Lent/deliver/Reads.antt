@@ -1,4 +1,4 @@
--- The reading of the contract of `messages::deliver`. Made by tools/forms.
+-- The reading of the contract of `messages::deliver`. Made by tools/forms: 195f6a133d91d538.
 use Rattle.messages.proofs.deliver
 use Rattle.messages.proofs.Lent.deliver.Kinds
 use base.Logic

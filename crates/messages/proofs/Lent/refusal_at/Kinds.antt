@@ -1,4 +1,4 @@
--- The kinds of the parameters and the result of `messages::refusal_at`. Made by tools/forms.
+-- The kinds of the parameters and the result of `messages::refusal_at`. Made by tools/forms: e1f37b5cb1d49b1e.
 use borrow.Fn.Kinds
 use borrow.Kind.ShrSlice
 use borrow.Table.Referent

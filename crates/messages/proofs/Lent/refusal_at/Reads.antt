@@ -1,4 +1,4 @@
--- The reading of the contract of `messages::refusal_at`. Made by tools/forms.
+-- The reading of the contract of `messages::refusal_at`. Made by tools/forms: e1f37b5cb1d49b1e.
 use Rattle.messages.proofs.refusal_at
 use Rattle.messages.proofs.Lent.refusal_at.Kinds
 use base.Logic

@@ -1,4 +1,4 @@
--- The kinds of the parameters and the result of `messages::run_links`. Made by tools/forms.
+-- The kinds of the parameters and the result of `messages::run_links`. Made by tools/forms: e9f1c2be1501ef2a.
 use Rattle.messages.proofs.Ran
 use Rattle.messages.proofs.Ran.Laws
 use Rattle.sheet.proofs.SheetHeld

@@ -1,4 +1,4 @@
--- The reading of the contract of `messages::run_links`. Made by tools/forms.
+-- The reading of the contract of `messages::run_links`. Made by tools/forms: e9f1c2be1501ef2a.
 use Rattle.messages.proofs.run_links
 use Rattle.messages.proofs.Lent.run_links.Kinds
 use base.Logic

@@ -1,4 +1,4 @@
--- The steps of `messages::amend`. Made by tools/forms.
+-- The steps of `messages::amend`. Made by tools/forms: 46c2f3b168abab10.
 use Prim.Native.Nat
 use Rattle.messages.proofs.Change
 use Rattle.messages.proofs.Change.Laws

@@ -1,4 +1,4 @@
--- The needs, at its contract, of `messages::amend`. Made by tools/forms.
+-- The needs, at its contract, of `messages::amend`. Made by tools/forms: 46c2f3b168abab10.
 use Rattle.messages.proofs.amend.Code
 use Rattle.messages.proofs.amend.Key
 use Rattle.messages.proofs.Lent.amend.Kinds

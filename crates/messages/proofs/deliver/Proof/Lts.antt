@@ -1,4 +1,4 @@
--- The steps of `messages::deliver`. Made by tools/forms.
+-- The steps of `messages::deliver`. Made by tools/forms: 195f6a133d91d538.
 use Prim.Native.Nat
 use Rattle.desk.proofs.Message
 use Rattle.desk.proofs.Message.Laws

@@ -1,4 +1,4 @@
--- The needs, at its contract, of `messages::deliver`. Made by tools/forms.
+-- The needs, at its contract, of `messages::deliver`. Made by tools/forms: 195f6a133d91d538.
 use Rattle.desk.proofs.told_by.Met
 use Rattle.desk.proofs.told_by.Reads
 use Rattle.desk.proofs.told_by.Symbol

@@ -1,4 +1,4 @@
--- The steps of `messages::deliver_once`. Made by tools/forms.
+-- The steps of `messages::deliver_once`. Made by tools/forms: e6fe0ca3cf696a7d.
 use Prim.Native.Nat
 use Rattle.sheet.proofs.SheetHeld
 use Rattle.sheet.proofs.SheetHeld.Laws

@@ -1,4 +1,4 @@
--- The needs, at its contract, of `messages::deliver_once`. Made by tools/forms.
+-- The needs, at its contract, of `messages::deliver_once`. Made by tools/forms: e6fe0ca3cf696a7d.
 use Rattle.messages.proofs.deliver.Met
 use Rattle.messages.proofs.Lent.deliver.Reads
 use Rattle.messages.proofs.deliver.Symbol

@@ -1,4 +1,4 @@
--- The steps of `messages::refusal_at`. Made by tools/forms.
+-- The steps of `messages::refusal_at`. Made by tools/forms: e1f37b5cb1d49b1e.
 use Prim.Native.Nat
 use Rattle.desk.proofs.Told
 use Rattle.desk.proofs.Told.Laws

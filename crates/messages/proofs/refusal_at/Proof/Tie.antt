@@ -1,4 +1,4 @@
--- The needs, at its contract, of `messages::refusal_at`. Made by tools/forms.
+-- The needs, at its contract, of `messages::refusal_at`. Made by tools/forms: e1f37b5cb1d49b1e.
 use Rattle.links.proofs.fraction_of.Met
 use Rattle.links.proofs.fraction_of.Reads
 use Rattle.links.proofs.fraction_of.Symbol

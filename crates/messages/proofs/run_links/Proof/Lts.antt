@@ -1,4 +1,4 @@
--- The steps of `messages::run_links`. Made by tools/forms.
+-- The steps of `messages::run_links`. Made by tools/forms: e9f1c2be1501ef2a.
 use Prim.Native.Nat
 use Rattle.messages.proofs.Ran
 use Rattle.messages.proofs.Ran.Laws

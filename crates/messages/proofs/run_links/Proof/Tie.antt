@@ -1,4 +1,4 @@
--- The needs, at its contract, of `messages::run_links`. Made by tools/forms.
+-- The needs, at its contract, of `messages::run_links`. Made by tools/forms: e9f1c2be1501ef2a.
 use Rattle.messages.proofs.begin.Met
 use Rattle.messages.proofs.begin.Reads
 use Rattle.messages.proofs.begin.Symbol

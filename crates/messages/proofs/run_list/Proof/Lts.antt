@@ -1,4 +1,4 @@
--- The steps of `messages::run_list`. Made by tools/forms.
+-- The steps of `messages::run_list`. Made by tools/forms: 6ee47fada13a5777.
 use Prim.Native.Nat
 use Rattle.messages.proofs.Ran
 use Rattle.messages.proofs.Ran.Laws

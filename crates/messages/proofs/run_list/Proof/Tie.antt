@@ -1,4 +1,4 @@
--- The needs, at its contract, of `messages::run_list`. Made by tools/forms.
+-- The needs, at its contract, of `messages::run_list`. Made by tools/forms: 6ee47fada13a5777.
 use Rattle.links.proofs.list.Met
 use Rattle.links.proofs.list.Reads
 use Rattle.links.proofs.list.Symbol
