@@ -13,8 +13,8 @@ use Rattle.links.specs.declared.RowRange.{RowRange}
 abbrev pub linkSaid : Link → SheetLink
 linkSaid l = record { from = l .from; to = l .to; load = l .load; fraction = l .fraction .0 }
 
-abbrev pub linkOf : ℕ → ℕ → ℕ → ℕ → Link
-linkOf f t d x = record { kind = 3; from = f; to = t; load = d; fraction = record { 0 = x } }
+abbrev pub recordOf : ℕ → ℕ → ℕ → ℕ → Link
+recordOf f t d x = record { kind = 3; from = f; to = t; load = d; fraction = record { 0 = x } }
 
 -- what stands where there is no link
 abbrev pub noLink : Link
@@ -32,16 +32,13 @@ abbrev pub fractions : List Link → List ℕ
 fractions ls = map (λ l. l .fraction .0) ls
 
 -- the first place of a link from node i or a higher one; the list's length where there is none
-unfoldable pub firstFrom : ℕ → List Link → ℕ
-firstFrom i [] = 0
-firstFrom i (l ∷ ls) = cond (ltb (l .from) i) (suc (firstFrom i ls)) 0
+unfoldable pub rowStart : ℕ → List Link → ℕ
+rowStart i [] = 0
+rowStart i (l ∷ ls) = cond (ltb (l .from) i) (suc (rowStart i ls)) 0
 
 -- node i's row, where links rise by from: from its first link up to the first of a higher node
-abbrev pub rowOf : ℕ → List Link → RowRange
-rowOf i ls = record { start = firstFrom i ls; end = firstFrom (i + 1) ls }
-
-abbrev pub Rising : List Link → Type 0
-Rising ls = (j k : ℕ) → j ≤ k → k < length ls → linkAt ls j .from ≤ linkAt ls k .from
+abbrev pub rowRange : ℕ → List Link → RowRange
+rowRange i ls = record { start = rowStart i ls; end = rowStart (i + 1) ls }
 
 -- the link at k is the opposite of the link at j
 abbrev pub turnsAt : List Link → ℕ → ℕ → Bool
@@ -50,4 +47,4 @@ turnsAt ls j k = opposite (linkSaid (linkAt ls j)) (linkSaid (linkAt ls k))
 -- the list of the links that stand in four slices
 pub record Listed (count : ℕ) (fs ts ds xs : List ℕ) (r : List Link) : Type 0 where
   pub size : length r ≡ 512
-  pub each : (j : ℕ) → j < count → linkAt r j ≡ linkOf (getD fs j 0) (getD ts j 0) (getD ds j 0) (getD xs j 0)
+  pub each : (j : ℕ) → j < count → linkAt r j ≡ recordOf (getD fs j 0) (getD ts j 0) (getD ds j 0) (getD xs j 0)

@@ -11,7 +11,7 @@ ghost use lib.Dec.{ltb, eqb};
 ghost use Rattle.rules.specs.Lists.{below, first};
 ghost use Rattle.rules.specs.Sheet.{opposite};
 ghost use Rattle.sheet.specs.Held.{foundSaid};
-ghost use Rattle.links.specs.List.{linkSaid, linkOf, noLink, linkAt, firstFrom, rowOf, Rising, turnsAt, Listed};
+ghost use Rattle.links.specs.List.{linkSaid, recordOf, noLink, linkAt, froms, rowStart, rowRange, turnsAt, Listed};
 ghost use Rattle.links.specs.Opposites.{RisesTo, Paired};
 
 // A link's record. Its kind, which is 3, makes it eight whole bytes: a list with a byte to spare in each is cleared slowly.
@@ -43,8 +43,8 @@ pub fn fraction_of(l: Link) -> Fraction
     l.fraction
 }
 
-fn link_of(from: u8, to: u8, load: u8, fraction: Fraction) -> Link
-    ensures { λ r. ⌜ r ≡ linkOf from to load (fraction .0) ⌝ }
+fn record_of(from: u8, to: u8, load: u8, fraction: Fraction) -> Link
+    ensures { λ r. ⌜ r ≡ recordOf from to load (fraction .0) ⌝ }
 {
     Link {
         kind: 3,
@@ -74,15 +74,18 @@ fn is_below(l: Link, i: u16) -> bool
     (l.from as u16) < i
 }
 
+// Does a link that runs from one node to another run from node a to node z?
+fn is_between(from: u8, to: u8, a: u8, z: u8) -> bool
+    ensures { λ r. ⌜ r ≡ (eqb from a && eqb to z) ⌝ }
+{
+    if from == a { to == z } else { false }
+}
+
 // Is m the opposite of l?
 fn is_opposite(l: Link, m: Link) -> bool
     ensures { λ r. ⌜ r ≡ opposite (linkSaid l) (linkSaid m) ⌝ }
 {
-    if m.from == l.to {
-        m.to == l.from
-    } else {
-        false
-    }
+    is_between(m.from, m.to, l.to, l.from)
 }
 
 // ---- The list.
@@ -95,8 +98,8 @@ pub fn link_at(links: &[Link], j: usize) -> Link
 }
 
 // The first place of a link from node i or a higher one; the list's length where there is none.
-fn first_from(links: &[Link], i: u16) -> usize
-    ensures { λ r. ⌜ r ≡ firstFrom i (now (links .entry)) ⌝ }
+fn row_start(links: &[Link], i: u16) -> usize
+    ensures { λ r. ⌜ r ≡ rowStart i (now (links .entry)) ⌝ }
 {
     let mut k: usize = 0;
     while k < links.len() {
@@ -116,17 +119,17 @@ pub struct RowRange {
 
 // Node i's row.
 pub fn row_of(links: &[Link], i: u8) -> RowRange
-    ensures { λ r. ⌜ r ≡ rowOf i (now (links .entry)) ⌝ }
+    ensures { λ r. ⌜ r ≡ rowRange i (now (links .entry)) ⌝ }
 {
     let n = i as u16;
-    let start = first_from(links, n);
-    let end = first_from(links, n + 1);
+    let start = row_start(links, n);
+    let end = row_start(links, n + 1);
     RowRange { start, end }
 }
 
 // The place of link j's opposite, where it is present: it is looked for in the row of the far node.
 pub fn opposite_of(links: &[Link], j: usize) -> Found
-    requires { ⌜ (j < length (now links)) × Rising (now links) ⌝ }
+    requires { ⌜ (j < length (now links)) × RisesTo (length (now links)) (froms (now links)) ⌝ }
     ensures { λ r. ⌜ foundSaid r ≡ first (turnsAt (now (links .entry)) j) (below (length (now (links .entry)))) ⌝ }
 {
     let l = link_at(links, j);
@@ -149,20 +152,13 @@ pub fn list(count: usize, from: &[u8], to: &[u8], load: &[u8], fraction: &[u32])
     let mut links = [no_link(); 512];
     let mut j: usize = 0;
     while j < count {
-        links[j] = link_of(from[j], to[j], load[j], Fraction(fraction[j]));
+        links[j] = record_of(from[j], to[j], load[j], Fraction(fraction[j]));
         j += 1;
     }
     links
 }
 
 // ---- Opposites.
-
-// Does a link that runs from one node to another run from node a to node z?
-fn is_between(from: u8, to: u8, a: u8, z: u8) -> bool
-    ensures { λ r. ⌜ r ≡ (eqb from a && eqb to z) ⌝ }
-{
-    if from == a { to == z } else { false }
-}
 
 // Each cursor starts where its node's row does.
 fn copy_starts(n: u8, starts: &[u16], cursor: &mut [u16])

@@ -4,6 +4,7 @@ use mathlib.Core.Path.{_≡_}
 use mathlib.Core.List.{List}
 use lib.ListN.{length, getD, take, drop}
 use Rattle.rules.specs.Lists.{flowing}
+use Rattle.links.specs.Opposites.{RisesTo}
 
 -- what stands from a up to e
 abbrev pub part : List ℕ → ℕ → ℕ → List ℕ
@@ -12,7 +13,7 @@ part xs a e = take (e - a) (drop a xs)
 -- links sorted by from, which is below n
 pub record Sorted (n count : ℕ) (fs : List ℕ) : Type 0 where
   pub low : (j : ℕ) → j < count → getD fs j 0 < n
-  pub rises : (j k : ℕ) → j ≤ k → k < count → getD fs j 0 ≤ getD fs k 0
+  pub rises : RisesTo count fs
 
 -- node i's row is the links from ss[i] up to ss[i+1]
 pub record Rows (n count : ℕ) (fs ss : List ℕ) : Type 0 where

@@ -19,14 +19,14 @@ no-link-requires c κs = search needs
 loop-holds : tie.Need-loop-holds Inv-loop μ-loop
 loop-holds c = listed-none refl
 
-shared-slice-read-link-of : tie.Need-shared-slice-read-link-of Inv-loop μ-loop
-shared-slice-read-link-of c = search needs
+shared-slice-read-record-of : tie.Need-shared-slice-read-record-of Inv-loop μ-loop
+shared-slice-read-record-of c = search needs
 
-shared-slice-read-link-of-2 : tie.Need-shared-slice-read-link-of-2 Inv-loop μ-loop
-shared-slice-read-link-of-2 c = search needs
+shared-slice-read-record-of-2 : tie.Need-shared-slice-read-record-of-2 Inv-loop μ-loop
+shared-slice-read-record-of-2 c = search needs
 
-shared-slice-read-link-of-3 : tie.Need-shared-slice-read-link-of-3 Inv-loop μ-loop
-shared-slice-read-link-of-3 c = search needs
+shared-slice-read-record-of-3 : tie.Need-shared-slice-read-record-of-3 Inv-loop μ-loop
+shared-slice-read-record-of-3 c = search needs
 
 mul-t17 : tie.Need-mul-t17 Inv-loop μ-loop
 mul-t17 c = search needs
@@ -34,8 +34,8 @@ mul-t17 c = search needs
 shared-slice-read-t19 : tie.Need-shared-slice-read-t19 Inv-loop μ-loop
 shared-slice-read-t19 c = search needs
 
-link-of-requires : tie.Need-link-of-requires Inv-loop μ-loop
-link-of-requires c κs = search needs
+record-of-requires : tie.Need-record-of-requires Inv-loop μ-loop
+record-of-requires c κs = search needs
 
 mul-links : tie.Need-mul-links Inv-loop μ-loop
 mul-links c = search needs
@@ -50,7 +50,7 @@ loop-less : tie.Need-loop-less Inv-loop μ-loop
 loop-less c = search needs
 
 loop-again : tie.Need-loop-again Inv-loop μ-loop
-loop-again c = listed-more (c .before .before .before .before .before .before .loop .inv) (omega arith) (c .link-of .ensures)
+loop-again c = listed-more (c .before .before .before .before .before .before .loop .inv) (omega arith) (c .record-of .ensures)
 
 returns : tie.Need-returns Inv-loop μ-loop
 returns c = listed-all (c .before .loop .inv) (c .loop-test .left)
@@ -63,12 +63,12 @@ list-spec =
     μ-loop
     no-link-requires
     loop-holds
-    shared-slice-read-link-of
-    shared-slice-read-link-of-2
-    shared-slice-read-link-of-3
+    shared-slice-read-record-of
+    shared-slice-read-record-of-2
+    shared-slice-read-record-of-3
     mul-t17
     shared-slice-read-t19
-    link-of-requires
+    record-of-requires
     mul-links
     array-set-from-links
     add-j

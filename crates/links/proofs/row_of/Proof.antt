@@ -5,23 +5,23 @@ use borrow.Author.Needs.{needs}
 use Rattle.links.proofs.row_of.Statement.{statement}
 use Rattle.links.proofs.row_of.Proof.Tie as tie
 
-first-from-requires : tie.Need-first-from-requires
-first-from-requires c κs = search needs
+row-start-requires : tie.Need-row-start-requires
+row-start-requires c κs = search needs
 
-add-first-from : tie.Need-add-first-from
-add-first-from c = search needs
+add-row-start : tie.Need-add-row-start
+add-row-start c = search needs
 
-first-from-requires-2 : tie.Need-first-from-requires-2
-first-from-requires-2 c κs = search needs
+row-start-requires-2 : tie.Need-row-start-requires-2
+row-start-requires-2 c κs = search needs
 
 returns : tie.Need-returns
-returns c = cc (c .before .first-from .ensures, c .first-from2 .ensures)
+returns c = cc (c .before .row-start .ensures, c .row-start2 .ensures)
 
 pub row-of-spec : {M : Type 1} → statement M
 row-of-spec =
     tie.close
     (tie.spec
-    first-from-requires
-    add-first-from
-    first-from-requires-2
+    row-start-requires
+    add-row-start
+    row-start-requires-2
     returns)

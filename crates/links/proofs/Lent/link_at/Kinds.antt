@@ -1,4 +1,4 @@
--- The kinds of the parameters and the result of `links::link_at`. Made by tools/forms: b0b1e6247e2df36c.
+-- The kinds of the parameters and the result of `links::link_at`. Made by tools/forms: 23f98285bdc057cb.
 use borrow.Fn.Kinds
 use borrow.Kind.ShrSlice
 use mathlib.Core.List

@@ -1,4 +1,4 @@
--- The kinds of the parameters and the result of `links::opposite_of`. Made by tools/forms: 4a1a77d7c676dea2.
+-- The kinds of the parameters and the result of `links::opposite_of`. Made by tools/forms: eb5eac4e234426f5.
 use Rattle.sheet.proofs.Found
 use Rattle.sheet.proofs.Found.Laws
 use borrow.Fn.Kinds

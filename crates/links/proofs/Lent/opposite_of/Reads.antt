@@ -1,4 +1,4 @@
--- The reading of the contract of `links::opposite_of`. Made by tools/forms: 4a1a77d7c676dea2.
+-- The reading of the contract of `links::opposite_of`. Made by tools/forms: eb5eac4e234426f5.
 use Rattle.links.proofs.opposite_of
 use Rattle.links.proofs.Lent.opposite_of.Kinds
 use base.Logic

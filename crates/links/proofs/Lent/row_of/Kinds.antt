@@ -1,4 +1,4 @@
--- The kinds of the parameters and the result of `links::row_of`. Made by tools/forms: b3a99feaba090f36.
+-- The kinds of the parameters and the result of `links::row_of`. Made by tools/forms: 37530e6eed95b7ae.
 use Rattle.links.proofs.RowRange
 use Rattle.links.proofs.RowRange.Laws
 use borrow.Fn.Kinds

@@ -1,4 +1,4 @@
--- The reading of the contract of `links::row_of`. Made by tools/forms: b3a99feaba090f36.
+-- The reading of the contract of `links::row_of`. Made by tools/forms: 37530e6eed95b7ae.
 use Rattle.links.proofs.row_of
 use Rattle.links.proofs.Lent.row_of.Kinds
 use base.Logic

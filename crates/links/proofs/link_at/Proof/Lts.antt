@@ -1,4 +1,4 @@
--- The steps of `links::link_at`. Made by tools/forms: b0b1e6247e2df36c.
+-- The steps of `links::link_at`. Made by tools/forms: 23f98285bdc057cb.
 use Prim.Native.Nat
 use borrow.Fn.Any
 use borrow.Fn.Enter

@@ -1,4 +1,4 @@
--- The needs, at its contract, of `links::link_at`. Made by tools/forms: b0b1e6247e2df36c.
+-- The needs, at its contract, of `links::link_at`. Made by tools/forms: 23f98285bdc057cb.
 use Rattle.links.proofs.link_at.Code
 use Rattle.links.proofs.link_at.Key
 use Rattle.links.proofs.Lent.link_at.Kinds

@@ -1,4 +1,4 @@
--- The steps of `links::opposite_of`. Made by tools/forms: 4a1a77d7c676dea2.
+-- The steps of `links::opposite_of`. Made by tools/forms: eb5eac4e234426f5.
 use Prim.Native.Nat
 use Rattle.links.proofs.RowRange
 use Rattle.links.proofs.RowRange.Laws

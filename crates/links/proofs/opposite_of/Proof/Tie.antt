@@ -1,4 +1,4 @@
--- The needs, at its contract, of `links::opposite_of`. Made by tools/forms: 4a1a77d7c676dea2.
+-- The needs, at its contract, of `links::opposite_of`. Made by tools/forms: eb5eac4e234426f5.
 use Rattle.links.proofs.is_opposite.Met
 use Rattle.links.proofs.is_opposite.Reads
 use Rattle.links.proofs.is_opposite.Symbol

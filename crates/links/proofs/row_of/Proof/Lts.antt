@@ -1,4 +1,4 @@
--- The steps of `links::row_of`. Made by tools/forms: b3a99feaba090f36.
+-- The steps of `links::row_of`. Made by tools/forms: 37530e6eed95b7ae.
 use Prim.Native.Nat
 use Rattle.links.proofs.RowRange
 use Rattle.links.proofs.RowRange.Laws
@@ -73,13 +73,13 @@ abbrev b0 : Syntax.Body
 b0 = Syntax.assign (Syntax.place 3 List.[]) (Syntax.op1 (Syntax.cast Syntax.unsigned Syntax.unsigned Syntax.w16) (Syntax.copy (Syntax.place 2 List.[])))
 
 abbrev b1 : Syntax.Body
-b1 = Syntax.call "links::first_from" (List._∷_ (Syntax.copy (Syntax.place 1 List.[])) (List._∷_ (Syntax.copy (Syntax.place 3 List.[])) List.[])) (Syntax.place 4 List.[])
+b1 = Syntax.call "links::row_start" (List._∷_ (Syntax.copy (Syntax.place 1 List.[])) (List._∷_ (Syntax.copy (Syntax.place 3 List.[])) List.[])) (Syntax.place 4 List.[])
 
 abbrev b2 : Syntax.Body
 b2 = Syntax.assign (Syntax.place 6 List.[]) (Syntax.op2 (Syntax.add Syntax.unsigned) (Syntax.copy (Syntax.place 3 List.[])) (Syntax.int Syntax.w16 1))
 
 abbrev b3 : Syntax.Body
-b3 = Syntax.call "links::first_from" (List._∷_ (Syntax.copy (Syntax.place 1 List.[])) (List._∷_ (Syntax.copy (Syntax.place 6 List.[])) List.[])) (Syntax.place 5 List.[])
+b3 = Syntax.call "links::row_start" (List._∷_ (Syntax.copy (Syntax.place 1 List.[])) (List._∷_ (Syntax.copy (Syntax.place 6 List.[])) List.[])) (Syntax.place 5 List.[])
 
 abbrev b4 : Syntax.Body
 b4 = Syntax.assign (Syntax.place 0 List.[]) (Syntax.aggregate (List._∷_ (Syntax.copy (Syntax.place 4 List.[])) (List._∷_ (Syntax.copy (Syntax.place 5 List.[])) List.[])))
@@ -262,7 +262,7 @@ module _ (claims· : Claims) where
   module _ (Pre· : (κs : Lifetimes.Lfts 1) → Kinds.Dens κs ps → Type 0) (Post· : (κs : Lifetimes.Lfts 1) → (a : Kinds.Dens κs ps) → Kinds.Plain 1 ps r κs) where
     module _ (M : Type 1) where
       abbrev pub Closed : Type 2
-      Closed = (𝓤 : URA.URA M) (H : Wp.Heap 𝓤) (A : Atoms.Atoms 𝓤) (W : Kit.Given 𝓤 H A) (𝓣 : Wp.Tables 𝓤 H) (known0 : Plain.Known 𝓤 H A W 𝓣 1 ps·0 r·0 (claims· .0) (claims· .1) "links::first_from") → Statement.Triple 𝓤 (Wp.WpFn 𝓤 H (𝓣 .C) (𝓣 .Λ) (Function.fnOf 1 ps r xs m hs body)) (Function.plainOf 𝓤 H A 1 ps r Pre· Post·)
+      Closed = (𝓤 : URA.URA M) (H : Wp.Heap 𝓤) (A : Atoms.Atoms 𝓤) (W : Kit.Given 𝓤 H A) (𝓣 : Wp.Tables 𝓤 H) (known0 : Plain.Known 𝓤 H A W 𝓣 1 ps·0 r·0 (claims· .0) (claims· .1) "links::row_start") → Statement.Triple 𝓤 (Wp.WpFn 𝓤 H (𝓣 .C) (𝓣 .Λ) (Function.fnOf 1 ps r xs m hs body)) (Function.plainOf 𝓤 H A 1 ps r Pre· Post·)
 
     module _ where
       abbrev at0 : Typed.TF T12 O0
@@ -306,7 +306,7 @@ module _ (claims· : Claims) where
 
       module _ {M : Type 1} (𝓤 : URA.URA M) (H : Wp.Heap 𝓤) (A : Atoms.Atoms 𝓤) (W : Kit.Given 𝓤 H A) (𝓣 : Wp.Tables 𝓤 H) where
         abbrev Knowns : Type 1
-        Knowns = Plain.Known 𝓤 H A W 𝓣 1 ps·0 r·0 (claims· .0) (claims· .1) "links::first_from"
+        Knowns = Plain.Known 𝓤 H A W 𝓣 1 ps·0 r·0 (claims· .0) (claims· .1) "links::row_start"
 
       module _ (κs : Lifetimes.Lfts 1) (qs : Lifetimes.Shares 1) where
         abbrev l0 : List.List Row.Life
@@ -383,13 +383,13 @@ module _ (claims· : Claims) where
           d7 = Typed.g-pre 𝓤 H A W 𝓣 E G5 G6 b6 Δ0 (Typed.pass T5 T6 s4) at6 (Scalar.g-room 𝓤 H A W E G5 6 (Syntax.tyInt Syntax.w16) (Scalar.room-sc 𝓤 H A W (Row.sInt Syntax.w16))) d6
 
           d8 : Typed.Typed 𝓤 H A 𝓣 E G4 b7 Δ0 at8
-          d8 = Typed.s-seq 𝓤 H A W 𝓣 E G4 G5 b3 b6 Δ0 (Typed.both s3) at7 (Plain.t-call-plain 𝓤 H A W 𝓣 1 ps·0 r·0 (claims· .0) (claims· .1) "links::first_from" known E (λ pos β. β) G4 (record { pos = 1; ty = Syntax.tyRef (Syntax.named 0) Syntax.imm S·Link.behind; ref = λ x. x }, (Num.vAt 6 λ x. x, tt)) 5 (List._∷_ 0 List.[]) (Call.sub-id 𝓤 H A W (G4 .slots)) (ShrSlice.spares-sslice 𝓤 H A W S·Link.R y1 0, Shared.reads-sslice 𝓤 H A W S·Link.R y1 0, Path'.refl, ((Scalar.reads-sc 𝓤 H A W (Row.sInt Syntax.w16), Path'.refl), tt)) (Reads.room-gone 𝓤 H A (Syntax.tyInt Syntax.w64)) (tt, tt) Path'.refl) d7
+          d8 = Typed.s-seq 𝓤 H A W 𝓣 E G4 G5 b3 b6 Δ0 (Typed.both s3) at7 (Plain.t-call-plain 𝓤 H A W 𝓣 1 ps·0 r·0 (claims· .0) (claims· .1) "links::row_start" known E (λ pos β. β) G4 (record { pos = 1; ty = Syntax.tyRef (Syntax.named 0) Syntax.imm S·Link.behind; ref = λ x. x }, (Num.vAt 6 λ x. x, tt)) 5 (List._∷_ 0 List.[]) (Call.sub-id 𝓤 H A W (G4 .slots)) (ShrSlice.spares-sslice 𝓤 H A W S·Link.R y1 0, Shared.reads-sslice 𝓤 H A W S·Link.R y1 0, Path'.refl, ((Scalar.reads-sc 𝓤 H A W (Row.sInt Syntax.w16), Path'.refl), tt)) (Reads.room-gone 𝓤 H A (Syntax.tyInt Syntax.w64)) (tt, tt) Path'.refl) d7
 
           d9 : Typed.Typed 𝓤 H A 𝓣 E G3 b8 Δ0 at9
           d9 = Typed.s-seq 𝓤 H A W 𝓣 E G3 G4 b2 b7 Δ0 (Typed.ask s2) at8 (Scalar.t-op2 𝓤 H A W E 𝓣 G3 (Syntax.add Syntax.unsigned) (Scalar.oAt 3 (Syntax.tyInt Syntax.w16) (Row.valS (Row.sInt Syntax.w16))) (Scalar.oInt Syntax.w16 1) 6 (Rows.sc-here (Row.sInt Syntax.w16)) (Syntax.tyInt Syntax.w16) (Row.valS (Row.sInt Syntax.w16)) (Row.sInt Syntax.w16 .of) (Scalar.reads-sc 𝓤 H A W (Row.sInt Syntax.w16), Path'.refl) tt (Reads.room-gone 𝓤 H A (Syntax.tyInt Syntax.w16)) (Scalar.holds-sc 𝓤 H A W (Row.sInt Syntax.w16)) Path'.refl (λ u. Path'.refl) λ u. tt) d8
 
           d10 : Typed.Typed 𝓤 H A 𝓣 E G2 b9 Δ0 at10
-          d10 = Typed.s-seq 𝓤 H A W 𝓣 E G2 G3 b1 b8 Δ0 (Typed.both s1) at9 (Plain.t-call-plain 𝓤 H A W 𝓣 1 ps·0 r·0 (claims· .0) (claims· .1) "links::first_from" known E (λ pos β. β) G2 (record { pos = 1; ty = Syntax.tyRef (Syntax.named 0) Syntax.imm S·Link.behind; ref = λ x. x }, (Num.vAt 3 λ x. x, tt)) 4 (List._∷_ 0 List.[]) (Call.sub-id 𝓤 H A W (G2 .slots)) (ShrSlice.spares-sslice 𝓤 H A W S·Link.R y1 0, Shared.reads-sslice 𝓤 H A W S·Link.R y1 0, Path'.refl, ((Scalar.reads-sc 𝓤 H A W (Row.sInt Syntax.w16), Path'.refl), tt)) (Reads.room-gone 𝓤 H A (Syntax.tyInt Syntax.w64)) (tt, tt) Path'.refl) d9
+          d10 = Typed.s-seq 𝓤 H A W 𝓣 E G2 G3 b1 b8 Δ0 (Typed.both s1) at9 (Plain.t-call-plain 𝓤 H A W 𝓣 1 ps·0 r·0 (claims· .0) (claims· .1) "links::row_start" known E (λ pos β. β) G2 (record { pos = 1; ty = Syntax.tyRef (Syntax.named 0) Syntax.imm S·Link.behind; ref = λ x. x }, (Num.vAt 3 λ x. x, tt)) 4 (List._∷_ 0 List.[]) (Call.sub-id 𝓤 H A W (G2 .slots)) (ShrSlice.spares-sslice 𝓤 H A W S·Link.R y1 0, Shared.reads-sslice 𝓤 H A W S·Link.R y1 0, Path'.refl, ((Scalar.reads-sc 𝓤 H A W (Row.sInt Syntax.w16), Path'.refl), tt)) (Reads.room-gone 𝓤 H A (Syntax.tyInt Syntax.w64)) (tt, tt) Path'.refl) d9
 
           d11 : Typed.Typed 𝓤 H A 𝓣 E G0 b10 Δ0 at11
           d11 = Typed.s-seq 𝓤 H A W 𝓣 E G0 G2 b0 b9 Δ0 (Typed.ask s0) at10 (Scalar.t-op1 𝓤 H A W E 𝓣 G0 (Syntax.cast Syntax.unsigned Syntax.unsigned Syntax.w16) (Scalar.oAt 2 (Syntax.tyInt Syntax.w8) (Row.valS (Row.sInt Syntax.w8))) 3 (Rows.sc-here (Row.sInt Syntax.w16)) (Syntax.tyInt Syntax.w16) (Row.valS (Row.sInt Syntax.w16)) (Row.sInt Syntax.w16 .of) (Scalar.reads-sc 𝓤 H A W (Row.sInt Syntax.w8), Path'.refl) (Reads.room-gone 𝓤 H A (Syntax.tyInt Syntax.w16)) (Scalar.holds-sc 𝓤 H A W (Row.sInt Syntax.w16)) Path'.refl (λ u. Path'.refl) λ u. tt) d10
@@ -425,84 +425,84 @@ module _ (claims· : Claims) where
       abbrev pub m1 : (κs : Lifetimes.Lfts 1) → (args : Args κs) → Typed.Mo T2
       m1 = λ κs args. s0 .next (m0 κs args)
 
-      abbrev pub Need-first-from-requires : Type 0
-      Need-first-from-requires = (c : Start) → s1 .asks (m1 (c .κs) (c .args))
+      abbrev pub Need-row-start-requires : Type 0
+      Need-row-start-requires = (c : Start) → s1 .asks (m1 (c .κs) (c .args))
 
       abbrev pub m2 : (before : Start) → (given : s1 .gives (m1 (before .κs) (before .args))) → Typed.Mo T3
       m2 = λ before given. s1 .next (m1 (before .κs) (before .args)) given
 
       module _ (before· : Start) where
-        abbrev pub After-first-from·own : Type 0
-        After-first-from·own = Called.Called ps·0 r·0 (claims· .1) T2 (record { pos = 1; ty = Syntax.tyRef (Syntax.named 0) Syntax.imm S·Link.behind; ref = λ x. x }, (Num.vAt 3 λ x. x, tt)) (m1 (before· .κs) (before· .args))
+        abbrev pub After-row-start·own : Type 0
+        After-row-start·own = Called.Called ps·0 r·0 (claims· .1) T2 (record { pos = 1; ty = Syntax.tyRef (Syntax.named 0) Syntax.imm S·Link.behind; ref = λ x. x }, (Num.vAt 3 λ x. x, tt)) (m1 (before· .κs) (before· .args))
 
-      pub record After-first-from : Type 0 where
+      pub record After-row-start : Type 0 where
         pub before : Start
-        pub first-from : After-first-from·own before
+        pub row-start : After-row-start·own before
 
-      abbrev pub After-first-from·gave : (c : After-first-from) → s1 .gives (m1 (c .before .κs) (c .before .args))
-      After-first-from·gave = λ c. Called.given ps·0 r·0 (claims· .1) T2 (record { pos = 1; ty = Syntax.tyRef (Syntax.named 0) Syntax.imm S·Link.behind; ref = λ x. x }, (Num.vAt 3 λ x. x, tt)) (m1 (c .before .κs) (c .before .args)) (c .first-from)
+      abbrev pub After-row-start·gave : (c : After-row-start) → s1 .gives (m1 (c .before .κs) (c .before .args))
+      After-row-start·gave = λ c. Called.given ps·0 r·0 (claims· .1) T2 (record { pos = 1; ty = Syntax.tyRef (Syntax.named 0) Syntax.imm S·Link.behind; ref = λ x. x }, (Num.vAt 3 λ x. x, tt)) (m1 (c .before .κs) (c .before .args)) (c .row-start)
 
-      abbrev pub Need-add-first-from : Type 0
-      Need-add-first-from = (c : After-first-from) → s2 .asks (m2 (c .before) (After-first-from·gave c))
+      abbrev pub Need-add-row-start : Type 0
+      Need-add-row-start = (c : After-row-start) → s2 .asks (m2 (c .before) (After-row-start·gave c))
 
       abbrev pub m3 : (before : Start) → (given : s1 .gives (m1 (before .κs) (before .args))) → Typed.Mo T4
       m3 = λ before given. s2 .next (m2 before given)
 
-      abbrev pub Need-first-from-requires-2 : Type 0
-      Need-first-from-requires-2 = (c : After-first-from) → s3 .asks (m3 (c .before) (After-first-from·gave c))
+      abbrev pub Need-row-start-requires-2 : Type 0
+      Need-row-start-requires-2 = (c : After-row-start) → s3 .asks (m3 (c .before) (After-row-start·gave c))
 
-      abbrev pub m4 : (before : After-first-from) → (given : s3 .gives (m3 (before .before) (After-first-from·gave before))) → Typed.Mo T5
-      m4 = λ before given. s3 .next (m3 (before .before) (After-first-from·gave before)) given
+      abbrev pub m4 : (before : After-row-start) → (given : s3 .gives (m3 (before .before) (After-row-start·gave before))) → Typed.Mo T5
+      m4 = λ before given. s3 .next (m3 (before .before) (After-row-start·gave before)) given
 
-      module _ (before· : After-first-from) where
-        abbrev pub After-first-from2·own : Type 0
-        After-first-from2·own = Called.Called ps·0 r·0 (claims· .1) T4 (record { pos = 1; ty = Syntax.tyRef (Syntax.named 0) Syntax.imm S·Link.behind; ref = λ x. x }, (Num.vAt 6 λ x. x, tt)) (m3 (before· .before) (After-first-from·gave before·))
+      module _ (before· : After-row-start) where
+        abbrev pub After-row-start2·own : Type 0
+        After-row-start2·own = Called.Called ps·0 r·0 (claims· .1) T4 (record { pos = 1; ty = Syntax.tyRef (Syntax.named 0) Syntax.imm S·Link.behind; ref = λ x. x }, (Num.vAt 6 λ x. x, tt)) (m3 (before· .before) (After-row-start·gave before·))
 
-      pub record After-first-from2 : Type 0 where
-        pub before : After-first-from
-        pub first-from2 : After-first-from2·own before
+      pub record After-row-start2 : Type 0 where
+        pub before : After-row-start
+        pub row-start2 : After-row-start2·own before
 
-      abbrev pub After-first-from2·gave : (c : After-first-from2) → s3 .gives (m3 (c .before .before) (After-first-from·gave (c .before)))
-      After-first-from2·gave = λ c. Called.given ps·0 r·0 (claims· .1) T4 (record { pos = 1; ty = Syntax.tyRef (Syntax.named 0) Syntax.imm S·Link.behind; ref = λ x. x }, (Num.vAt 6 λ x. x, tt)) (m3 (c .before .before) (After-first-from·gave (c .before))) (c .first-from2)
+      abbrev pub After-row-start2·gave : (c : After-row-start2) → s3 .gives (m3 (c .before .before) (After-row-start·gave (c .before)))
+      After-row-start2·gave = λ c. Called.given ps·0 r·0 (claims· .1) T4 (record { pos = 1; ty = Syntax.tyRef (Syntax.named 0) Syntax.imm S·Link.behind; ref = λ x. x }, (Num.vAt 6 λ x. x, tt)) (m3 (c .before .before) (After-row-start·gave (c .before))) (c .row-start2)
 
-      abbrev pub m5 : (before : After-first-from) → (given : s3 .gives (m3 (before .before) (After-first-from·gave before))) → Typed.Mo T6
+      abbrev pub m5 : (before : After-row-start) → (given : s3 .gives (m3 (before .before) (After-row-start·gave before))) → Typed.Mo T6
       m5 = λ before given. s4 (m4 before given)
 
-      abbrev pub m6 : (before : After-first-from) → (given : s3 .gives (m3 (before .before) (After-first-from·gave before))) → Typed.Mo T7
+      abbrev pub m6 : (before : After-row-start) → (given : s3 .gives (m3 (before .before) (After-row-start·gave before))) → Typed.Mo T7
       m6 = λ before given. s5 (m5 before given)
 
-      abbrev pub m7 : (before : After-first-from) → (given : s3 .gives (m3 (before .before) (After-first-from·gave before))) → Typed.Mo T8
+      abbrev pub m7 : (before : After-row-start) → (given : s3 .gives (m3 (before .before) (After-row-start·gave before))) → Typed.Mo T8
       m7 = λ before given. s6 (m6 before given)
 
-      abbrev pub m8 : (before : After-first-from) → (given : s3 .gives (m3 (before .before) (After-first-from·gave before))) → Typed.Mo T9
+      abbrev pub m8 : (before : After-row-start) → (given : s3 .gives (m3 (before .before) (After-row-start·gave before))) → Typed.Mo T9
       m8 = λ before given. s7 (m7 before given)
 
-      abbrev pub m9 : (before : After-first-from) → (given : s3 .gives (m3 (before .before) (After-first-from·gave before))) → Typed.Mo T10
+      abbrev pub m9 : (before : After-row-start) → (given : s3 .gives (m3 (before .before) (After-row-start·gave before))) → Typed.Mo T10
       m9 = λ before given. s8 (m8 before given)
 
-      abbrev pub m10 : (before : After-first-from) → (given : s3 .gives (m3 (before .before) (After-first-from·gave before))) → Typed.Mo T11
+      abbrev pub m10 : (before : After-row-start) → (given : s3 .gives (m3 (before .before) (After-row-start·gave before))) → Typed.Mo T11
       m10 = λ before given. s9 (m9 before given)
 
-      abbrev pub m11 : (before : After-first-from) → (given : s3 .gives (m3 (before .before) (After-first-from·gave before))) → Typed.Mo T12
+      abbrev pub m11 : (before : After-row-start) → (given : s3 .gives (m3 (before .before) (After-row-start·gave before))) → Typed.Mo T12
       m11 = λ before given. s10 (m10 before given)
 
       abbrev pub Need-returns : Type 0
-      Need-returns = (c : After-first-from2) → Post· (c .before .before .κs) (dens (c .before .before .κs) (c .before .before .args)) (Function.resV r (c .before .before .κs) (m11 (c .before) (After-first-from2·gave c) .0)) (Clauses.atExit (Kinds.endedOf 1 ps r) (c .before .before .κs) (dens (c .before .before .κs) (c .before .before .args)) (Enter.lastsP (c .before .before .κs) 1 ps xs (dens (c .before .before .κs) (c .before .before .args)) (m11 (c .before) (After-first-from2·gave c) .1)))
+      Need-returns = (c : After-row-start2) → Post· (c .before .before .κs) (dens (c .before .before .κs) (c .before .before .args)) (Function.resV r (c .before .before .κs) (m11 (c .before) (After-row-start2·gave c) .0)) (Clauses.atExit (Kinds.endedOf 1 ps r) (c .before .before .κs) (dens (c .before .before .κs) (c .before .before .args)) (Enter.lastsP (c .before .before .κs) 1 ps xs (dens (c .before .before .κs) (c .before .before .args)) (m11 (c .before) (After-row-start2·gave c) .1)))
 
-      module _ (first-from-requires : Need-first-from-requires) (add-first-from : Need-add-first-from) (first-from-requires-2 : Need-first-from-requires-2) (returns : Need-returns) where
-        lay2 : (c : After-first-from2) → at7 (W0 (c .before .before .κs) (c .before .before .args)) (m4 (c .before) (After-first-from2·gave c))
-        lay2 = λ c. ((Path'.refl, (tt, tt)), returns record { before = c .before; first-from2 = c .first-from2 })
+      module _ (row-start-requires : Need-row-start-requires) (add-row-start : Need-add-row-start) (row-start-requires-2 : Need-row-start-requires-2) (returns : Need-returns) where
+        lay2 : (c : After-row-start2) → at7 (W0 (c .before .before .κs) (c .before .before .args)) (m4 (c .before) (After-row-start2·gave c))
+        lay2 = λ c. ((Path'.refl, (tt, tt)), returns record { before = c .before; row-start2 = c .row-start2 })
 
-        lay1 : (c : After-first-from) → at9 (W0 (c .before .κs) (c .before .args)) (m2 (c .before) (After-first-from·gave c))
-        lay1 = λ c. (add-first-from record { before = c .before; first-from = c .first-from }, (first-from-requires-2 record { before = c .before; first-from = c .first-from }, λ g. lay2 record { before = record { before = c .before; first-from = c .first-from }; first-from2 = Called.called ps·0 r·0 (claims· .1) T4 (record { pos = 1; ty = Syntax.tyRef (Syntax.named 0) Syntax.imm S·Link.behind; ref = λ x. x }, (Num.vAt 6 λ x. x, tt)) (m3 (c .before) (After-first-from·gave c)) g }))
+        lay1 : (c : After-row-start) → at9 (W0 (c .before .κs) (c .before .args)) (m2 (c .before) (After-row-start·gave c))
+        lay1 = λ c. (add-row-start record { before = c .before; row-start = c .row-start }, (row-start-requires-2 record { before = c .before; row-start = c .row-start }, λ g. lay2 record { before = record { before = c .before; row-start = c .row-start }; row-start2 = Called.called ps·0 r·0 (claims· .1) T4 (record { pos = 1; ty = Syntax.tyRef (Syntax.named 0) Syntax.imm S·Link.behind; ref = λ x. x }, (Num.vAt 6 λ x. x, tt)) (m3 (c .before) (After-row-start·gave c)) g }))
 
         pub laid : (c : Start) → at11 (W0 (c .κs) (c .args)) (m0 (c .κs) (c .args))
-        laid = λ c. (Facts.fits-bits 8 tt (c .good .1 .0 .1), (first-from-requires c, λ g. lay1 record { before = c; first-from = Called.called ps·0 r·0 (claims· .1) T2 (record { pos = 1; ty = Syntax.tyRef (Syntax.named 0) Syntax.imm S·Link.behind; ref = λ x. x }, (Num.vAt 3 λ x. x, tt)) (m1 (c .κs) (c .args)) g }))
+        laid = λ c. (Facts.fits-bits 8 tt (c .good .1 .0 .1), (row-start-requires c, λ g. lay1 record { before = c; row-start = Called.called ps·0 r·0 (claims· .1) T2 (record { pos = 1; ty = Syntax.tyRef (Syntax.named 0) Syntax.imm S·Link.behind; ref = λ x. x }, (Num.vAt 3 λ x. x, tt)) (m1 (c .κs) (c .args)) g }))
 
         module _ (κs : Lifetimes.Lfts 1) (qs : Lifetimes.Shares 1) where
           pub asked : (a : Kinds.Dens κs ps) → (good : Kinds.GoodsP κs ps a) → (pre : Pre· κs a) → (bs : List.List Nat.ℕ) → Φ (Any.wantQ 1 ps r xs m κs qs a (Post· κs a)) (Function.init 1 ps r xs m κs qs a)
           asked = λ a good pre bs. laid record { κs = κs; args = record { links = a .0; i = a .1 .0 }; good = good; fits = record { i = record { fits = good .1 .0 .1 } }; pre = pre }
 
-        module _ {M : Type 1} (𝓤 : URA.URA M) (H : Wp.Heap 𝓤) (A : Atoms.Atoms 𝓤) (W : Kit.Given 𝓤 H A) (𝓣 : Wp.Tables 𝓤 H) (known0 : Plain.Known 𝓤 H A W 𝓣 1 ps·0 r·0 (claims· .0) (claims· .1) "links::first_from") where
+        module _ {M : Type 1} (𝓤 : URA.URA M) (H : Wp.Heap 𝓤) (A : Atoms.Atoms 𝓤) (W : Kit.Given 𝓤 H A) (𝓣 : Wp.Tables 𝓤 H) (known0 : Plain.Known 𝓤 H A W 𝓣 1 ps·0 r·0 (claims· .0) (claims· .1) "links::row_start") where
           pub spec : Statement.Triple 𝓤 (Wp.WpFn 𝓤 H (𝓣 .C) (𝓣 .Λ) (Function.fnOf 1 ps r xs m hs body)) (Function.plainOf 𝓤 H A 1 ps r Pre· Post·)
           spec = Plain.t-fn-plain 𝓤 H A W 𝓣 1 ps r xs m hs body (λ κs qs bs. Φ) (λ κs qs bs bd. typed κs qs 𝓤 H A W 𝓣 known0 bs bd) Pre· Post· asked

@@ -1,4 +1,4 @@
--- The steps of `links::search_opposites`. Made by tools/forms: db2d662c53bf5696.
+-- The steps of `links::search_opposites`. Made by tools/forms: 23f197604c516feb.
 use Prim.Native.Nat
 use Rattle.sheet.proofs.Found
 use Rattle.sheet.proofs.Found.Laws

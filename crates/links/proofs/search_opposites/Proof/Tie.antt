@@ -1,4 +1,4 @@
--- The needs, at its contract, of `links::search_opposites`. Made by tools/forms: db2d662c53bf5696.
+-- The needs, at its contract, of `links::search_opposites`. Made by tools/forms: 23f197604c516feb.
 use Rattle.links.proofs.list.Met
 use Rattle.links.proofs.list.Reads
 use Rattle.links.proofs.list.Symbol

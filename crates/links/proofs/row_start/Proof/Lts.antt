@@ -1,4 +1,4 @@
--- The steps of `links::first_from`. Made by tools/forms: 41a05d6a81a965ea.
+-- The steps of `links::row_start`. Made by tools/forms: 4be119a75902fd48.
 use Prim.Native.Nat
 use borrow.Author.Called
 use borrow.Author.Tests

@@ -1,4 +1,4 @@
--- The kinds of the parameters and the result of `links::first_from`. Made by tools/forms: 41a05d6a81a965ea.
+-- The kinds of the parameters and the result of `links::row_start`. Made by tools/forms: 4be119a75902fd48.
 use borrow.Fn.Kinds
 use borrow.Kind.ShrSlice
 use mathlib.Core.List
