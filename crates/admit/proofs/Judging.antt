@@ -8,25 +8,25 @@ use lib.ListN.{length, get_or}
 use Rattle.rules.specs.Lists.{below, Place, nowhere, at, first}
 use Rattle.rules.specs.Sheet.{Sheet}
 use Rattle.rules.specs.Bytes.{AreBytes}
-use Rattle.rules.specs.Loop.{onLoop}
-use Rattle.rules.specs.Judge.{Verdict, refused, accepted, refusedAt, paired, adds, judge}
-use Rattle.rules.specs.Check.{wrong, read, sheetAlone, judged, check}
-use Rattle.rules.proofs.Reading.{check-gives, bytes-length}
+use Rattle.rules.specs.Loop.{on_loop}
+use Rattle.rules.specs.Judge.{Verdict, refused, accepted, refused_at, paired, adds, judge}
+use Rattle.rules.specs.Check.{wrong, read, sheet_alone, judged, check}
+use Rattle.rules.proofs.Reading.{check_gives, bytes-length}
 use Rattle.rules.proofs.Sound.{Sound}
 use Rattle.sheet.specs.declared.HeadHeld.{HeadHeld}
 use Rattle.sheet.specs.declared.SheetHeld.{SheetHeld}
 use Rattle.sheet.specs.declared.SheetRead.{SheetRead}
 use Rattle.sheet.specs.declared.Found.{Found}
-use Rattle.sheet.specs.Held.{sheetSaid, sheetReadSaid, held, foundSaid, Lent, SheetGiven}
-use Rattle.sheet.proofs.Facts.{SheetFacts, given-facts}
+use Rattle.sheet.specs.Held.{sheet_said, sheet_read_said, held, found_said, Lent, SheetGiven}
+use Rattle.sheet.proofs.Facts.{SheetFacts, given_facts}
 use Rattle.links.specs.Opposites.{Opposites, Paired}
 use Rattle.network.specs.Rows.{Sorted, Rows, Flow}
 use Rattle.network.specs.Answers.{Surveyed}
-use Rattle.network.proofs.Rows.{held-length, rising-sorted}
+use Rattle.network.proofs.Rows.{held-length, rising_sorted}
 use Rattle.order.specs.Order as order
 use Rattle.node.specs.Net.{Graph}
 use Rattle.admit.specs.declared.Opened.{Opened}
-use Rattle.admit.specs.Opened.{openedSaid, Room, Worked, workedIf, JudgeAsked, Judged, Ready, readyIf, OpenedGiven}
+use Rattle.admit.specs.Opened.{opened_said, Room, Worked, worked_if, JudgeAsked, Judged, Ready, ready_if, OpenedGiven}
 
 -- the room that the steps leave
 pub room-kept : {ss gs ps os ord turn ss' gs' ps' os' fs ts xs : List ℕ} {h : HeadHeld} {count : ℕ} {w a : Found} → Room ss gs ps os ord turn
@@ -54,28 +54,28 @@ room-ordered room ordered = record {
 -- the verdict once 6 is not given, and once 7 is not given either
 module _ (h : SheetHeld) (tr fs ts ls xs : List ℕ) where
   abbrev s : Sheet
-  s = sheetSaid h tr fs ts ls xs
+  s = sheet_said h tr fs ts ls xs
 
   abbrev by_8 : Place → Verdict
-  by_8 p = refusedAt 8 p (accepted s)
+  by_8 p = refused_at 8 p (accepted s)
 
-  abbrev by-7 : Place → Verdict
-  by-7 p = refusedAt 7 p (by_8 (first (onLoop s) (below s.nodes)))
+  abbrev by_7 : Place → Verdict
+  by_7 p = refused_at 7 p (by_8 (first (on_loop s) (below s.nodes)))
 
-  abbrev by-6 : Place → Verdict
-  by-6 p = refusedAt 6 p (by-7 (first (λ i. not (adds s i)) (below s.nodes)))
+  abbrev by_6 : Place → Verdict
+  by_6 p = refused_at 6 p (by_7 (first (λ i. not (adds s i)) (below s.nodes)))
 
   module _ {a : Found} {os : List ℕ} (pairs : Paired a h.links fs ts os) where
-    at-6 : by-6 (foundSaid a) ≡ judge s
-    at-6 = ap by-6 (pairs.said ls xs)
+    at_6 : by_6 (found_said a) ≡ judge s
+    at_6 = ap by_6 (pairs.said ls xs)
 
     module _ {w : Found} {ss gs ps : List ℕ} (surveyed : Surveyed w h.head h.links fs xs ss gs ps) where
-      at_7 : a ≡ Found.Nowhere → by-7 (foundSaid w) ≡ judge s
-      at_7 e = ap by-7 (surveyed.said s.traffic ts ls) ∙ ap (λ (x : Found). by-6 (foundSaid x)) (sym e) ∙ at-6
+      at_7 : a ≡ Found.Nowhere → by_7 (found_said w) ≡ judge s
+      at_7 e = ap by_7 (surveyed.said s.traffic ts ls) ∙ ap (λ (x : Found). by_6 (found_said x)) (sym e) ∙ at_6
 
       at_8 : {l : Found} {ord turn : List ℕ} → a ≡ Found.Nowhere → w ≡ Found.Nowhere → order.OrderGiven l h.head h.links fs ts xs ord turn
-          → by_8 (foundSaid l) ≡ judge s
-      at_8 e q ordered = ap by_8 (ordered.said s.traffic ls) ∙ ap (λ (x : Found). by-7 (foundSaid x)) (sym q) ∙ at_7 e
+          → by_8 (found_said l) ≡ judge s
+      at_8 e q ordered = ap by_8 (ordered.said s.traffic ls) ∙ ap (λ (x : Found). by_7 (found_said x)) (sym q) ∙ at_7 e
 
 -- what 8's judge asks for
 pub order-asked : (h : SheetHeld) {fs ts ls xs ss gs ps os ord turn : List ℕ} {w : Found} → Room ss gs ps os ord turn → Surveyed w h.head h.links fs xs ss gs ps
@@ -100,51 +100,51 @@ order-asked h room surveyed asked = record {
 
 module _ (h : SheetHeld) {fs ts xs ss gs ps os ord turn : List ℕ} (room : Room ss gs ps os ord turn) {a : Found} (pairs : Paired a h.links fs ts os) where
   -- a link without its opposite
-  pub judged-6 : {j : ℕ} → a ≡ Found.At j → Judged (Opened.Refused 6 j) h fs ts xs ss gs ps os ord turn
-  judged-6 {j} e = record {
-    said = λ tr ls. ap (λ (x : Found). by-6 h tr fs ts ls xs (foundSaid x)) (sym e) ∙ at-6 h tr fs ts ls xs pairs;
+  pub judged_6 : {j : ℕ} → a ≡ Found.At j → Judged (Opened.Refused 6 j) h fs ts xs ss gs ps os ord turn
+  judged_6 {j} e = record {
+    said = λ tr ls. ap (λ (x : Found). by_6 h tr fs ts ls xs (found_said x)) (sym e) ∙ at_6 h tr fs ts ls xs pairs;
     worked = tt;
     room = room;
   }
 
   module _ {w : Found} (surveyed : Surveyed w h.head h.links fs xs ss gs ps) (e : a ≡ Found.Nowhere) where
     -- a row with a wrong sum
-    pub judged-7 : {i : ℕ} → w ≡ Found.At i → Judged (Opened.Refused 7 i) h fs ts xs ss gs ps os ord turn
-    judged-7 {i} q = record {
-      said = λ tr ls. ap (λ (x : Found). by-7 h tr fs ts ls xs (foundSaid x)) (sym q) ∙ at_7 h tr fs ts ls xs pairs surveyed e;
+    pub judged_7 : {i : ℕ} → w ≡ Found.At i → Judged (Opened.Refused 7 i) h fs ts xs ss gs ps os ord turn
+    judged_7 {i} q = record {
+      said = λ tr ls. ap (λ (x : Found). by_7 h tr fs ts ls xs (found_said x)) (sym q) ∙ at_7 h tr fs ts ls xs pairs surveyed e;
       worked = tt;
       room = room;
     }
 
     module _ (q : w ≡ Found.Nowhere) {l : Found} (ordered : order.OrderGiven l h.head h.links fs ts xs ord turn) where
       -- a loop
-      pub judged-8 : {i : ℕ} → l ≡ Found.At i → Judged (Opened.Refused 8 i) h fs ts xs ss gs ps os ord turn
-      judged-8 {i} z = record {
-        said = λ tr ls. ap (λ (x : Found). by_8 h tr fs ts ls xs (foundSaid x)) (sym z) ∙ at_8 h tr fs ts ls xs pairs surveyed e q ordered;
+      pub judged_8 : {i : ℕ} → l ≡ Found.At i → Judged (Opened.Refused 8 i) h fs ts xs ss gs ps os ord turn
+      judged_8 {i} z = record {
+        said = λ tr ls. ap (λ (x : Found). by_8 h tr fs ts ls xs (found_said x)) (sym z) ∙ at_8 h tr fs ts ls xs pairs surveyed e q ordered;
         worked = tt;
         room = room;
       }
 
-      pub judged-fine : l ≡ Found.Nowhere → Judged (Opened.Accepted h) h fs ts xs ss gs ps os ord turn
-      judged-fine z = record {
-        said = λ tr ls. ap (λ (x : Found). by_8 h tr fs ts ls xs (foundSaid x)) (sym z) ∙ at_8 h tr fs ts ls xs pairs surveyed e q ordered;
-        worked = record { rows = surveyed.rows; flow = surveyed.flow; opposites = pairs.told (ap foundSaid e); sorted = ordered.sorted (ap foundSaid z) };
+      pub judged_fine : l ≡ Found.Nowhere → Judged (Opened.Accepted h) h fs ts xs ss gs ps os ord turn
+      judged_fine z = record {
+        said = λ tr ls. ap (λ (x : Found). by_8 h tr fs ts ls xs (found_said x)) (sym z) ∙ at_8 h tr fs ts ls xs pairs surveyed e q ordered;
+        worked = record { rows = surveyed.rows; flow = surveyed.flow; opposites = pairs.told (ap found_said e); sorted = ordered.sorted (ap found_said z) };
         room = room;
       }
 
 -- ---- the whole of Check
-module _ (b : List ℕ) {tr fs ts ls xs : List ℕ} (fit : AreBytes b) {g : SheetRead} (given : SheetGiven g (sheetAlone b) tr fs ts ls xs) where
-  pub opened-wrong : {n p : ℕ} {ss gs ps os ord turn : List ℕ} → g ≡ SheetRead.Wrong n p → Room ss gs ps os ord turn
+module _ (b : List ℕ) {tr fs ts ls xs : List ℕ} (fit : AreBytes b) {g : SheetRead} (given : SheetGiven g (sheet_alone b) tr fs ts ls xs) where
+  pub opened_wrong : {n p : ℕ} {ss gs ps os ord turn : List ℕ} → g ≡ SheetRead.Wrong n p → Room ss gs ps os ord turn
       → OpenedGiven (Opened.Refused n p) b tr fs ts ls xs ss gs ps os ord turn
-  opened-wrong e room = record {
-    said = ap judged (ap (λ (x : SheetRead). sheetReadSaid x tr fs ts ls xs) (sym e) ∙ given.said);
+  opened_wrong e room = record {
+    said = ap judged (ap (λ (x : SheetRead). sheet_read_said x tr fs ts ls xs) (sym e) ∙ given.said);
     ready = tt;
     room = room;
   }
 
   module _ {h : SheetHeld} {f : ℕ} (e : g ≡ SheetRead.Read h f) (lent : Lent tr fs ts ls xs) where
     facts : SheetFacts b h tr fs ts ls xs
-    facts = given-facts b fit given e
+    facts = given_facts b fit given e
 
     pub judge-asked : JudgeAsked h fs ts ls xs
     judge-asked = record {
@@ -154,30 +154,30 @@ module _ (b : List ℕ) {tr fs ts ls xs : List ℕ} (fit : AreBytes b) {g : Shee
       tos = lent.tos;
       loads = lent.loads;
       fractions = lent.fractions;
-      sorted = rising-sorted h.links fs ts ls xs facts.sane.rising facts.from_in;
+      sorted = rising_sorted h.links fs ts ls xs facts.sane.rising facts.from_in;
       to_in = facts.to_in;
     }
 
-    is-check : (v : Verdict) → v ≡ judge (sheetSaid h tr fs ts ls xs) → v ≡ check b
-    is-check v q = q ∙ ap judged (ap (λ (x : SheetRead). sheetReadSaid x tr fs ts ls xs) (sym e) ∙ given.said)
+    is_check : (v : Verdict) → v ≡ judge (sheet_said h tr fs ts ls xs) → v ≡ check b
+    is_check v q = q ∙ ap judged (ap (λ (x : SheetRead). sheet_read_said x tr fs ts ls xs) (sym e) ∙ given.said)
 
     pub opened : {r : Opened} {ss gs ps os ord turn : List ℕ} → Judged r h fs ts xs ss gs ps os ord turn
         → OpenedGiven r b tr fs ts ls xs ss gs ps os ord turn
     opened {r} {ss} {gs} {ps} {os} {ord} {turn} j =
-        let q : openedSaid r tr fs ts ls xs ≡ check b = is-check (openedSaid r tr fs ts ls xs) (j.said tr ls) in
+        let q : opened_said r tr fs ts ls xs ≡ check b = is_check (opened_said r tr fs ts ls xs) (j.said tr ls) in
         record { said = q; ready = go r j.worked q; room = j.room }
       where
         room : Room ss gs ps os ord turn
         room = j.room
 
-        figures : (k : SheetHeld) → Sound (sheetSaid k tr fs ts ls xs)
-            → 8 + 6 * length (sheetSaid k tr fs ts ls xs).traffic + 8 * length (sheetSaid k tr fs ts ls xs).links ≡ 8 + 6 * k.head.nodes + 8 * k.links
+        figures : (k : SheetHeld) → Sound (sheet_said k tr fs ts ls xs)
+            → 8 + 6 * length (sheet_said k tr fs ts ls xs).traffic + 8 * length (sheet_said k tr fs ts ls xs).links ≡ 8 + 6 * k.head.nodes + 8 * k.links
         figures k ok = omega (arith, ok.figures, held-length k.links fs ts ls xs)
 
-        go : (r : Opened) → workedIf r fs ts xs ss gs ps os ord turn → openedSaid r tr fs ts ls xs ≡ check b → readyIf r b tr fs ts ls xs ss gs ps os ord turn
+        go : (r : Opened) → worked_if r fs ts xs ss gs ps os ord turn → opened_said r tr fs ts ls xs ≡ check b → ready_if r b tr fs ts ls xs ss gs ps os ord turn
         go (Opened.Refused n p) w q = tt
         go (Opened.Accepted k) w q =
-            let c = check-gives b (sheetSaid k tr fs ts ls xs) fit (sym q) in
+            let c = check_gives b (sheet_said k tr fs ts ls xs) fit (sym q) in
             record {
               graph = record {
                 sound = c.0;
@@ -193,7 +193,7 @@ module _ (b : List ℕ) {tr fs ts ls xs : List ℕ} (fit : AreBytes b) {g : Shee
               flow = w.flow;
               sorted = w.sorted;
               stand = c.1;
-              long = sym (ap length c.1) ∙ bytes-length (sheetSaid k tr fs ts ls xs) ∙ figures k c.0;
+              long = sym (ap length c.1) ∙ bytes-length (sheet_said k tr fs ts ls xs) ∙ figures k c.0;
               load-size = lent.loads;
               room = room;
             }

@@ -6,7 +6,7 @@ use mathlib.Core.Path.{◌≡◌, sym, ap, subst, ◌∙◌}
 use mathlib.Core.List.{List}
 use lib.ListN.{length, get_or, take}
 use lib.Seq.{length-take-le, get_or-take}
-use Rattle.rules.specs.Sheet.{lineDelay}
+use Rattle.rules.specs.Sheet.{line_delay}
 use Rattle.rules.proofs.Desk.{line-top}
 use Rattle.numbers.specs.Lines.{LinesOf}
 use Rattle.sheet.specs.declared.SheetHeld.{SheetHeld}
@@ -22,7 +22,7 @@ net-ready {h} {b} {tr} {fs} {ts} {ls} {xs} {ss} {gs} {ps} {os} {ord} {turn} {zer
   flow = ready.flow;
   line-right = right;
   line_small = λ j. small j (dec_lt j h.links);
-  flow-start-size = ready.room.flow-starts;
+  flow-start_size = ready.room.flow-starts;
   flow-size = ready.room.flow;
   line-size = lines.long ∙ z;
 }
@@ -30,8 +30,8 @@ net-ready {h} {b} {tr} {fs} {ts} {ls} {xs} {ss} {gs} {ps} {os} {ord} {turn} {zer
     loads : length (take h.links ls) ≡ h.links
     loads = length-take-le h.links ls (omega (arith, links-few ready.graph, ready.load-size))
 
-    right : (j : ℕ) → j < h.links → get_or line j 0 ≡ lineDelay (get_or ls j 0)
-    right j a = lines.right j (omega (arith, loads)) ∙ ap lineDelay (get_or-take h.links ls j 0 a)
+    right : (j : ℕ) → j < h.links → get_or line j 0 ≡ line_delay (get_or ls j 0)
+    right j a = lines.right j (omega (arith, loads)) ∙ ap line_delay (get_or-take h.links ls j 0 a)
 
     small : (j : ℕ) → Dec (j < h.links) → get_or line j 0 ≤ 1048576
     small j (yes a) = subst (λ (x : ℕ). x ≤ 1048576) (sym (right j a)) (line-top (get_or ls j 0))

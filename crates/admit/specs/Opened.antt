@@ -5,7 +5,7 @@ use Rattle.rules.specs.Bytes.{bytes}
 use Rattle.rules.specs.Judge.{Verdict, refused, accepted, judge}
 use Rattle.rules.specs.Check.{check}
 use Rattle.sheet.specs.declared.SheetHeld.{SheetHeld}
-use Rattle.sheet.specs.Held.{sheetSaid}
+use Rattle.sheet.specs.Held.{sheet_said}
 use Rattle.links.specs.Opposites.{Opposites}
 use Rattle.network.specs.Rows.{Sorted, Rows, Flow}
 use Rattle.order.specs.Order.{Order}
@@ -13,9 +13,9 @@ use Rattle.node.specs.Net.{Graph}
 use Rattle.admit.specs.declared.Opened.{Opened}
 
 -- the verdict that the answer and the slices say
-abbrev pub openedSaid : Opened → List ℕ → List ℕ → List ℕ → List ℕ → List ℕ → Verdict
-openedSaid (Opened.Refused n p) tr fs ts ls xs = refused n p
-openedSaid (Opened.Accepted h) tr fs ts ls xs = accepted (sheetSaid h tr fs ts ls xs)
+abbrev pub opened_said : Opened → List ℕ → List ℕ → List ℕ → List ℕ → List ℕ → Verdict
+opened_said (Opened.Refused n p) tr fs ts ls xs = refused n p
+opened_said (Opened.Accepted h) tr fs ts ls xs = accepted (sheet_said h tr fs ts ls xs)
 
 -- what the slices are lent for
 pub record Room (ss gs ps os ord turn : List ℕ) : Type 0 where
@@ -33,9 +33,9 @@ pub record Worked (h : SheetHeld) (fs ts xs ss gs ps os ord turn : List ℕ) : T
   pub opposites : Opposites h.links fs ts os
   pub sorted : Order h.head.nodes h.links fs ts xs ord turn
 
-abbrev pub workedIf : Opened → List ℕ → List ℕ → List ℕ → List ℕ → List ℕ → List ℕ → List ℕ → List ℕ → List ℕ → Type 0
-workedIf (Opened.Refused n p) fs ts xs ss gs ps os ord turn = Unit {0}
-workedIf (Opened.Accepted h) fs ts xs ss gs ps os ord turn = Worked h fs ts xs ss gs ps os ord turn
+abbrev pub worked_if : Opened → List ℕ → List ℕ → List ℕ → List ℕ → List ℕ → List ℕ → List ℕ → List ℕ → List ℕ → Type 0
+worked_if (Opened.Refused n p) fs ts xs ss gs ps os ord turn = Unit {0}
+worked_if (Opened.Accepted h) fs ts xs ss gs ps os ord turn = Worked h fs ts xs ss gs ps os ord turn
 
 -- what 1 to 5 leave of the slices
 pub record JudgeAsked (h : SheetHeld) (fs ts ls xs : List ℕ) : Type 0 where
@@ -50,8 +50,8 @@ pub record JudgeAsked (h : SheetHeld) (fs ts ls xs : List ℕ) : Type 0 where
 
 -- 6, 7 and 8 are judged of the sheet that was read
 pub record Judged (r : Opened) (h : SheetHeld) (fs ts xs ss gs ps os ord turn : List ℕ) : Type 0 where
-  pub said : (tr ls : List ℕ) → openedSaid r tr fs ts ls xs ≡ judge (sheetSaid h tr fs ts ls xs)
-  pub worked : workedIf r fs ts xs ss gs ps os ord turn
+  pub said : (tr ls : List ℕ) → opened_said r tr fs ts ls xs ≡ judge (sheet_said h tr fs ts ls xs)
+  pub worked : worked_if r fs ts xs ss gs ps os ord turn
   pub room : Room ss gs ps os ord turn
 
 -- an accepted sheet in the slices
@@ -59,16 +59,16 @@ pub record Ready (h : SheetHeld) (b tr fs ts ls xs ss gs ps os ord turn : List �
   pub graph : Graph h tr fs ts ls xs ss os
   pub flow : Flow h.head.nodes ss xs gs ps
   pub sorted : Order h.head.nodes h.links fs ts xs ord turn
-  pub stand : bytes (sheetSaid h tr fs ts ls xs) ≡ b
+  pub stand : bytes (sheet_said h tr fs ts ls xs) ≡ b
   pub long : length b ≡ 8 + 6 * h.head.nodes + 8 * h.links
   pub load-size : length ls ≡ 512
   pub room : Room ss gs ps os ord turn
 
-abbrev pub readyIf : Opened → List ℕ → List ℕ → List ℕ → List ℕ → List ℕ → List ℕ → List ℕ → List ℕ → List ℕ → List ℕ → List ℕ → List ℕ → Type 0
-readyIf (Opened.Refused n p) b tr fs ts ls xs ss gs ps os ord turn = Unit {0}
-readyIf (Opened.Accepted h) b tr fs ts ls xs ss gs ps os ord turn = Ready h b tr fs ts ls xs ss gs ps os ord turn
+abbrev pub ready_if : Opened → List ℕ → List ℕ → List ℕ → List ℕ → List ℕ → List ℕ → List ℕ → List ℕ → List ℕ → List ℕ → List ℕ → List ℕ → Type 0
+ready_if (Opened.Refused n p) b tr fs ts ls xs ss gs ps os ord turn = Unit {0}
+ready_if (Opened.Accepted h) b tr fs ts ls xs ss gs ps os ord turn = Ready h b tr fs ts ls xs ss gs ps os ord turn
 
 pub record OpenedGiven (r : Opened) (b tr fs ts ls xs ss gs ps os ord turn : List ℕ) : Type 0 where
-  pub said : openedSaid r tr fs ts ls xs ≡ check b
-  pub ready : readyIf r b tr fs ts ls xs ss gs ps os ord turn
+  pub said : opened_said r tr fs ts ls xs ≡ check b
+  pub ready : ready_if r b tr fs ts ls xs ss gs ps os ord turn
   pub room : Room ss gs ps os ord turn

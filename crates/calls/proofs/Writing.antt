@@ -10,7 +10,7 @@ use Rattle.rules.specs.Bytes.{bytes}
 use Rattle.rules.specs.Round.{next}
 use Rattle.numbers.specs.Lines.{LinesOf}
 use Rattle.sheet.specs.declared.SheetHeld.{SheetHeld}
-use Rattle.sheet.specs.Held.{sheetSaid, WriteAsked, FractionsWritten}
+use Rattle.sheet.specs.Held.{sheet_said, WriteAsked, FractionsWritten}
 use Rattle.node.specs.Net.{Net, Empty}
 use Rattle.node.proofs.Held.{links-few}
 use Rattle.house.specs.House.{GraphHeld}
@@ -23,33 +23,33 @@ use Rattle.calls.specs.Written.{ReadyHeld, NextWritten}
 abbrev zeros : ℕ → List ℕ
 zeros n = replicate n 0
 
-zeros-at : (n k : ℕ) → get_or (zeros n) k 0 ≡ 0
-zeros-at zero k = refl
-zeros-at (suc n) zero = refl
-zeros-at (suc n) (suc k) = zeros-at n k
+zeros_at : (n k : ℕ) → get_or (zeros n) k 0 ≡ 0
+zeros_at zero k = refl
+zeros_at (suc n) zero = refl
+zeros_at (suc n) (suc k) = zeros_at n k
 
-zeros-long : (n : ℕ) → length (zeros n) ≡ n
-zeros-long n = length-replicate {A = ℕ} n 0
+zeros_long : (n : ℕ) → length (zeros n) ≡ n
+zeros_long n = length-replicate {A = ℕ} n 0
 
 -- the load steps of the links in use
-pub loads-in : {h : SheetHeld} {b tr ls xs ss gs ps os ord : List ℕ} → ReadyHeld h b tr ls xs ss gs ps os ord → h.links ≡ length (take h.links ls)
-loads-in {h} {b} {tr} {ls} held = sym (length-take-le h.links ls (omega (arith, links-few held.ready.graph, held.ready.load-size)))
+pub loads_in : {h : SheetHeld} {b tr ls xs ss gs ps os ord : List ℕ} → ReadyHeld h b tr ls xs ss gs ps os ord → h.links ≡ length (take h.links ls)
+loads_in {h} {b} {tr} {ls} held = sym (length-take-le h.links ls (omega (arith, links-few held.ready.graph, held.ready.load-size)))
 
 -- a new inbox
 pub empty : Empty (zeros 512)
-empty = record { size = zeros-long 512; silence = zeros-at 512 }
+empty = record { size = zeros_long 512; silence = zeros_at 512 }
 
 module _ {h : SheetHeld} {b tr ls xs ss gs ps os ord line : List ℕ} (lines : LinesOf (take h.links ls) (zeros 512) line) where
   ordered : (fs ts turn : List ℕ) → Ready h b tr fs ts ls xs ss gs ps os ord turn → Ordered h tr fs ts ls xs ss gs ps os line ord turn
   ordered fs ts turn ready = record {
-    net = net-ready ready lines (zeros-long 512) (zeros-at 512);
+    net = net-ready ready lines (zeros_long 512) (zeros_at 512);
     order = ready.sorted;
     order-size = ready.room.order;
   }
 
   module _ (held : ReadyHeld h b tr ls xs ss gs ps os ord) where
-    pub to-calculate : Given h tr xs ss gs ps os line ord
-    to-calculate = record { from = held.fs; to = held.ts; load = ls; turn = held.turn; ordered = ordered held.fs held.ts held.turn held.ready }
+    pub to_calculate : Given h tr xs ss gs ps os line ord
+    to_calculate = record { from = held.fs; to = held.ts; load = ls; turn = held.turn; ordered = ordered held.fs held.ts held.turn held.ready }
 
     module _ {ys : List ℕ} (done : CalculatedFor h tr xs ss gs ps os line ord ys) where
       pub to_write : {out : List ℕ} → length b ≤ length out → WriteAsked h.head h.links b ys out
@@ -77,6 +77,6 @@ graph-held {h} {b} {tr} {fs} {ts} {ls} {xs} {ss} {gs} {ps} ready = record {
   ps = ps;
   graph = ready.graph;
   flow = ready.flow;
-  flow-start-size = ready.room.flow-starts;
+  flow-start_size = ready.room.flow-starts;
   flow-size = ready.room.flow;
 }

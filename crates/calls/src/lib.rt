@@ -1,6 +1,6 @@
 // The five calls, worked out: each opens its sheet, judges its room, and writes nothing before all is decided.
 ghost use Rattle.std.specs.Prelude.{◌≡◌, List, ℕ, ◌≤◌, ◌<◌, length};
-ghost use Rattle.rules.specs.Calls.{checkReply, nextReply, playReply, frameReply, houseReply};
+ghost use Rattle.rules.specs.Calls.{check_reply, next_reply, play_reply, frame_reply, house_reply};
 ghost use Rattle.answers.specs.Answers.{both, told, numbers, Answered};
 ghost use Rattle.calls.specs.Written.{ReadyHeld, NextWritten};
 
@@ -11,7 +11,7 @@ use sheet::SheetHeld;
 
 // Check a sheet: answers its number of links.
 pub fn check(sheet: &[u8]) -> Answer
-    ensures { told result ≡ numbers (checkReply sheet.now) }
+    ensures { told result ≡ numbers (check_reply sheet.now) }
 {
     let mut traffic = [0u32; 64];
     let mut from = [0u8; 512];
@@ -82,7 +82,7 @@ fn write_next(
 
 // Writes the sheet with new fractions and nothing else changed; answers the bytes written.
 pub fn next(sheet: &[u8], out: &mut [u8]) -> Answer
-    ensures { Answered result (nextReply sheet.now (length out.old)) out.old out.new }
+    ensures { Answered result (next_reply sheet.now (length out.old)) out.old out.new }
 {
     let mut traffic = [0u32; 64];
     let mut from = [0u8; 512];
@@ -136,7 +136,7 @@ pub fn next(sheet: &[u8], out: &mut [u8]) -> Answer
 
 // House order: each time the lowest link whose message waits; answers how many.
 pub fn house(sheet: &[u8], out: &mut [u16]) -> Answer
-    ensures { Answered result (houseReply sheet.now (length out.old)) out.old out.new }
+    ensures { Answered result (house_reply sheet.now (length out.old)) out.old out.new }
 {
     let mut traffic = [0u32; 64];
     let mut from = [0u8; 512];
@@ -201,7 +201,7 @@ fn answer_of(s: Said) -> Answer
 
 // Delivers the messages of the list in its order; writes the same as Next.
 pub fn play(sheet: &[u8], list: &[u16], out: &mut [u8]) -> Answer
-    ensures { Answered result (playReply sheet.now list.now (length out.old)) out.old out.new }
+    ensures { Answered result (play_reply sheet.now list.now (length out.old)) out.old out.new }
 {
     let mut traffic = [0u32; 64];
     let mut from = [0u8; 512];
@@ -257,7 +257,7 @@ pub fn play(sheet: &[u8], list: &[u16], out: &mut [u8]) -> Answer
 
 // Delivers the messages of a list, which may stop early; writes six bytes a node: status, blocked, delay.
 pub fn frame(sheet: &[u8], list: &[u16], out: &mut [u8]) -> Answer
-    ensures { Answered result (frameReply sheet.now list.now (length out.old)) out.old out.new }
+    ensures { Answered result (frame_reply sheet.now list.now (length out.old)) out.old out.new }
 {
     let mut traffic = [0u32; 64];
     let mut from = [0u8; 512];

@@ -16,14 +16,14 @@ use lib.Dec.{ltb, eqb}
 use borrow.Author.Tests.{ltb-true, ltb-false, ne_eqb}
 use Rattle.rules.specs.Lists.{keep, total, counted, below, flowing}
 use Rattle.rules.specs.Sheet.{whole}
-use Rattle.rules.specs.Desk.{Way, Desk, cost, candidate, Best, nothing, best, bestOf, cutBy, cut, fractionWith, newFraction, new_row}
-use Rattle.rules.proofs.Tests.{known, clash, eqb-self}
-use Rattle.rules.proofs.Lists.{in-keep, keep-in, map-eq, total-keep, total-map, total-but, below_length, below_in, table_at}
-use Rattle.rules.proofs.Desk.{cut-by-le, flowing-allowed, best-is, BestIs}
-use Rattle.desk.specs.Ways.{ways_of, deskWith, Row, Rises}
-use Rattle.desk.specs.Work.{wayAt, Held, choiceAt, lowest, cut_at, shorn, Shorn}
+use Rattle.rules.specs.Desk.{Way, Desk, cost, candidate, Best, nothing, best, best_of, cut_by, cut, fraction_with, new_fraction, new_row}
+use Rattle.rules.proofs.Tests.{known, clash, eqb_self}
+use Rattle.rules.proofs.Lists.{in_keep, keep_in, map_eq, total-keep, total-map, total_but, below_length, below_in, table_at}
+use Rattle.rules.proofs.Desk.{cut_by_le, flowing_allowed, best_is, BestIs}
+use Rattle.desk.specs.Ways.{ways_of, desk_with, Row, Rises}
+use Rattle.desk.specs.Work.{way_at, Held, choice_at, lowest, cut_at, shorn, Shorn}
 use Rattle.desk.specs.declared.Choice.{Choice}
-use Rattle.desk.proofs.Places.{wayTo, ways-are, read_back, held, flows-at, flow-small, cost-top, cut-le, back}
+use Rattle.desk.proofs.Places.{way_to, ways_are, read_back, held, flows-at, flow-small, cost-top, cut_le, back}
 use Rattle.desk.proofs.Choices.{ChoiceIs, choice-best, chosen-inside}
 
 -- ---- a list whose every place is below those after it
@@ -35,22 +35,22 @@ counted-over : (k n : ℕ) {i : ℕ} → In i (counted k n) → k ≤ i
 counted-over k zero m = elim m [ ]
 counted-over k (suc n) {i} m = elim m [ here e ↦ omega arith | there u ↦ omega (arith, counted-over (suc k) n u) ]
 
-counted-rising : (k n : ℕ) → Rising (counted k n)
-counted-rising k zero = tt
-counted-rising k (suc n) = (λ q m. omega (arith, counted-over (suc k) n m), counted-rising (suc k) n)
+counted_rising : (k n : ℕ) → Rising (counted k n)
+counted_rising k zero = tt
+counted_rising k (suc n) = (λ q m. omega (arith, counted-over (suc k) n m), counted_rising (suc k) n)
 
-keep-rising : (t : ℕ → Bool) (ps : List ℕ) → Rising ps → Rising (keep t ps)
-keep-rising t [] r = tt
-keep-rising t (p ∷ ps) r = go (t p) (keep-rising t ps r.1)
+keep_rising : (t : ℕ → Bool) (ps : List ℕ) → Rising ps → Rising (keep t ps)
+keep_rising t [] r = tt
+keep_rising t (p ∷ ps) r = go (t p) (keep_rising t ps r.1)
   where
     go : (b : Bool) → Rising (keep t ps) → Rising (cond b (p ∷ keep t ps) (keep t ps))
-    go true s = (λ q m. r.0 q (in-keep t ps m).0, s)
+    go true s = (λ q m. r.0 q (in_keep t ps m).0, s)
     go false s = s
 
-drop-rising : (j : ℕ) (ps : List ℕ) → Rising ps → Rising (drop j ps)
-drop-rising zero ps r = r
-drop-rising (suc j) [] r = tt
-drop-rising (suc j) (p ∷ ps) r = drop-rising j ps r.1
+drop_rising : (j : ℕ) (ps : List ℕ) → Rising ps → Rising (drop j ps)
+drop_rising zero ps r = r
+drop_rising (suc j) [] r = tt
+drop_rising (suc j) (p ∷ ps) r = drop_rising j ps r.1
 
 -- ---- a row from which f was cut at some places
 module _ (f : ℕ → ℕ) (xs : List ℕ) where
@@ -76,14 +76,14 @@ module _ (f : ℕ → ℕ) (xs : List ℕ) where
   shorn-at q h = go (known (ltb 0 (get_or xs q 0)))
     where
       go : (ltb 0 (get_or xs q 0) ≡ true) ⊎ (ltb 0 (get_or xs q 0) ≡ false) → get_or (shorn f xs (flowing xs)) q 0 ≡ get_or xs q 0 - f q
-      go (inl e) = shorn-one q (flowing xs) h (keep-in (λ p. ltb 0 (get_or xs p 0)) (below_in (length xs) q h) e)
+      go (inl e) = shorn-one q (flowing xs) h (keep_in (λ p. ltb 0 (get_or xs p 0)) (below_in (length xs) q h) e)
       go (inr e) =
-          shorn-other q (flowing xs) (λ p m z. clash (in-keep (λ i. ltb 0 (get_or xs i 0)) (below (length xs)) m).1 (subst (λ (i : ℕ). ltb 0 (get_or xs i 0) ≡ false) z e))
+          shorn-other q (flowing xs) (λ p m z. clash (in_keep (λ i. ltb 0 (get_or xs i 0)) (below (length xs)) m).1 (subst (λ (i : ℕ). ltb 0 (get_or xs i 0) ≡ false) z e))
           ∙ omega (arith, ltb-false 0 (get_or xs q 0) e)
 
 -- ---- the loop of the cuts
-cut-dry : (s t c : ℕ) (ls xs ks : List ℕ) (q : ℕ) → ltb 0 (get_or xs q 0) ≡ false → cut_at s t c ls xs ks q ≡ 0
-cut-dry s t c ls xs ks q e = omega (arith, cut-by-le s t (cost (wayAt ls xs ks q) - c) (get_or xs q 0), ltb-false 0 (get_or xs q 0) e)
+cut_dry : (s t c : ℕ) (ls xs ks : List ℕ) (q : ℕ) → ltb 0 (get_or xs q 0) ≡ false → cut_at s t c ls xs ks q ≡ 0
+cut_dry s t c ls xs ks q e = omega (arith, cut_by_le s t (cost (way_at ls xs ks q) - c) (get_or xs q 0), ltb-false 0 (get_or xs q 0) e)
 
 module _ (s t c : ℕ) (ls ks : List ℕ) where
   pub record Cutting (xs ps : List ℕ) (j : ℕ) (ys : List ℕ) (g : ℕ) : Type 0 where
@@ -92,28 +92,28 @@ module _ (s t c : ℕ) (ls ks : List ℕ) where
     pub gain : g ≡ total (cut_at s t c ls xs ks) (drop j ps)
 
 module _ {s t c : ℕ} {ls xs ks ps : List ℕ} where
-  pub cutting-none : Cutting s t c ls ks xs ps (length ps) xs 0
-  cutting-none = record {
+  pub cutting_none : Cutting s t c ls ks xs ps (length ps) xs 0
+  cutting_none = record {
     within = omega arith;
     left = ap (shorn (cut_at s t c ls xs ks) xs) (sym (drop-length ps));
     gain = ap (total (cut_at s t c ls xs ks)) (sym (drop-length ps));
   }
 
-  pub cutting-length : {j g : ℕ} {ys : List ℕ} → Cutting s t c ls ks xs ps j ys g → length ys ≡ length xs
-  cutting-length {j} h = ap length h.left ∙ length-shorn (cut_at s t c ls xs ks) xs (drop j ps)
+  pub cutting_length : {j g : ℕ} {ys : List ℕ} → Cutting s t c ls ks xs ps j ys g → length ys ≡ length xs
+  cutting_length {j} h = ap length h.left ∙ length-shorn (cut_at s t c ls xs ks) xs (drop j ps)
 
   module _ {j g : ℕ} {ys : List ℕ} (p : 0 < j) (r : Row ls xs ks ps) (h : Cutting s t c ls ks xs ps j ys g) where
     -- the next place still has its old fraction
     fresh : get_or ys (get_or ps (j - 1) 0) 0 ≡ get_or xs (get_or ps (j - 1) 0) 0
     fresh =
-        let up : Rising (drop (j - 1) ps) = drop-rising (j - 1) ps (rw r.flow (keep-rising (λ i. ltb 0 (get_or xs i 0)) (below (length xs)) (counted-rising 0 (length xs)))) in
+        let up : Rising (drop (j - 1) ps) = drop_rising (j - 1) ps (rw r.flow (keep_rising (λ i. ltb 0 (get_or xs i 0)) (below (length xs)) (counted_rising 0 (length xs)))) in
         let next : Rising (get_or ps (j - 1) 0 ∷ drop j ps) = subst Rising (back ps j p h.within) up in
         rw h.left (shorn-other (cut_at s t c ls xs ks) xs (get_or ps (j - 1) 0) (drop j ps) (λ q m e. omega (arith, next.0 q m, e)))
 
-    pub cutting-held : Held ls ys ks (get_or ps (j - 1) 0)
-    cutting-held =
+    pub cutting_held : Held ls ys ks (get_or ps (j - 1) 0)
+    cutting_held =
         let o = held r (get_or ps (j - 1) 0) (flows-at r (j - 1) (omega (arith, h.within))).0 in
-        let long : length ys ≡ length xs = cutting-length h in
+        let long : length ys ≡ length xs = cutting_length h in
         record {
           lines = o.lines ∙ sym long;
           words = o.words ∙ sym long;
@@ -123,11 +123,11 @@ module _ {s t c : ℕ} {ls xs ks ps : List ℕ} where
           told-small = o.told-small;
         }
 
-    pub cutting-more : {v f k : ℕ} {w : Way} → w ≡ wayAt ls ys ks (get_or ps (j - 1) 0) → v ≡ cutBy s t (cost w - c) w.fraction → f ≡ w.fraction - v → k ≡ v + g
+    pub cutting_more : {v f k : ℕ} {w : Way} → w ≡ way_at ls ys ks (get_or ps (j - 1) 0) → v ≡ cut_by s t (cost w - c) w.fraction → f ≡ w.fraction - v → k ≡ v + g
         → Cutting s t c ls ks xs ps (j - 1) (set ys (get_or ps (j - 1) 0) f) k
-    cutting-more {v} {f} {k} {w} q e z u =
+    cutting_more {v} {f} {k} {w} q e z u =
         let a : w.fraction ≡ get_or xs (get_or ps (j - 1) 0) 0 = ap (λ (y : Way). y.fraction) q ∙ fresh in
-        let b : v ≡ cut_at s t c ls xs ks (get_or ps (j - 1) 0) = e ∙ ap₂ (λ (m n : ℕ). cutBy s t (m - c) n) (ap cost q) a in
+        let b : v ≡ cut_at s t c ls xs ks (get_or ps (j - 1) 0) = e ∙ ap₂ (λ (m n : ℕ). cut_by s t (m - c) n) (ap cost q) a in
         record {
           within = omega (arith, h.within);
           left = rw (back ps j p h.within) (ap₂ (λ (l : List ℕ) (n : ℕ). set l (get_or ps (j - 1) 0) n) h.left (z ∙ ap₂ ◌-◌ a b));
@@ -135,13 +135,13 @@ module _ {s t c : ℕ} {ls xs ks ps : List ℕ} where
         }
 
   module _ {j g : ℕ} {ys : List ℕ} (r : Row ls xs ks ps) (h : Cutting s t c ls ks xs ps j ys g) where
-    pub cutting-small : g ≤ whole
-    cutting-small = omega (arith, h.gain, flow-small r (cut_at s t c ls xs ks) 1 j (cut-le r s t c))
+    pub cutting_small : g ≤ whole
+    cutting_small = omega (arith, h.gain, flow-small r (cut_at s t c ls xs ks) 1 j (cut_le r s t c))
 
-    pub cutting-all : j ≤ 0 → Shorn (cut_at s t c ls xs ks) xs ps ys g
-    cutting-all p =
+    pub cutting_all : j ≤ 0 → Shorn (cut_at s t c ls xs ks) xs ps ys g
+    cutting_all p =
         let z : j ≡ 0 = omega arith in
-        record { left = rw z at h.left; gain = rw z at h.gain; small = cutting-small }
+        record { left = rw z at h.left; gain = rw z at h.gain; small = cutting_small }
 
 -- a cut row, where the row is one
 module _ {f : ℕ → ℕ} {ls xs ks ps ys : List ℕ} {g : ℕ} (r : Row ls xs ks ps) (h : Shorn f xs ps ys g) where
@@ -152,7 +152,7 @@ module _ {f : ℕ → ℕ} {ls xs ks ps ys : List ℕ} {g : ℕ} (r : Row ls xs 
   cut-at q a = ap (λ (l : List ℕ). get_or l q 0) (h.left ∙ ap (shorn f xs) r.flow) ∙ shorn-at f xs q a
 
   -- the place that is chosen
-  module _ {k : Choice} (some : 0 < length xs) (e : k ≡ lowest (choiceAt ls xs ks) (below (length xs))) where
+  module _ {k : Choice} (some : 0 < length xs) (e : k ≡ lowest (choice_at ls xs ks) (below (length xs))) where
     pub best-inside : k.place < length ys
     best-inside = omega (arith, chosen-inside ls xs ks some e, cut-length)
 
@@ -174,14 +174,14 @@ inside xs q h = go (dec_lt q (length xs))
     go (yes a) = a
     go (no a) = let z = get_or-eq_default xs 0 {n = q} (omega arith) in absurd (omega arith)
 
-pub empty-row : (s t : ℕ) (fs ls xs ks : List ℕ) → length xs ≡ 0 → length fs ≡ length xs → xs ≡ new_row (deskWith s t (ways_of fs ls xs ks))
+pub empty-row : (s t : ℕ) (fs ls xs ks : List ℕ) → length xs ≡ 0 → length fs ≡ length xs → xs ≡ new_row (desk_with s t (ways_of fs ls xs ks))
 empty-row s t [] ls [] ks e long = refl
 empty-row s t (f ∷ fs) ls [] ks e long = absurd (omega arith)
 empty-row s t fs ls (x ∷ xs) ks e long = absurd (omega arith)
 
 module _ (s t : ℕ) {ls xs ks ps : List ℕ} (r : Row ls xs ks ps) (fs : List ℕ) (long : length fs ≡ length xs) (up : Rises fs) where
   abbrev d : Desk
-  d = deskWith s t (ways_of fs ls xs ks)
+  d = desk_with s t (ways_of fs ls xs ks)
 
   apart : (p q : ℕ) → p < length xs → q < length xs → q ≢ p → get_or fs q 0 ≢ get_or fs p 0
   apart p q a b n e = go (dec_lt p q)
@@ -191,88 +191,88 @@ module _ (s t : ℕ) {ls xs ks ps : List ℕ} (r : Row ls xs ks ps) (fs : List �
       go (no h) = omega (arith, up q p (omega arith) (omega arith))
 
   -- with the best at place p and at cost c: what the rules cut, but that they spare the best
-  cut-same : (p c q : ℕ) → p < length xs → q ≢ p → cut_at s t c ls xs ks q ≡ cut s t (best (get_or fs p 0) c) (wayTo fs ls xs ks q)
+  cut-same : (p c q : ℕ) → p < length xs → q ≢ p → cut_at s t c ls xs ks q ≡ cut s t (best (get_or fs p 0) c) (way_to fs ls xs ks q)
   cut-same p c q a n = go (known (ltb 0 (get_or xs q 0)))
     where
       both : (b : Bool) (y : ℕ) → y ≡ 0 → y ≡ cond b y 0
       both true y e = refl
       both false y e = e
 
-      go : (ltb 0 (get_or xs q 0) ≡ true) ⊎ (ltb 0 (get_or xs q 0) ≡ false) → cut_at s t c ls xs ks q ≡ cut s t (best (get_or fs p 0) c) (wayTo fs ls xs ks q)
+      go : (ltb 0 (get_or xs q 0) ≡ true) ⊎ (ltb 0 (get_or xs q 0) ≡ false) → cut_at s t c ls xs ks q ≡ cut s t (best (get_or fs p 0) c) (way_to fs ls xs ks q)
       go (inl e) =
           let b : q < length xs = inside xs q (ltb-true 0 (get_or xs q 0) e) in
           rw (e, ne_eqb (get_or fs q 0) (get_or fs p 0) (apart p q a b n))
       go (inr e) =
-          both (candidate (wayTo fs ls xs ks q) && not (eqb (get_or fs q 0) (get_or fs p 0))) (cut_at s t c ls xs ks q) (cut-dry s t c ls xs ks q e)
+          both (candidate (way_to fs ls xs ks q) && not (eqb (get_or fs q 0) (get_or fs p 0))) (cut_at s t c ls xs ks q) (cut_dry s t c ls xs ks q e)
 
   -- all that the code cuts is what the rules cut, and the best's own cut
-  gain-is : (p c : ℕ) → p < length xs
+  gain_is : (p c : ℕ) → p < length xs
       → total (cut_at s t c ls xs ks) ps ≡ total (cut s t (best (get_or fs p 0) c)) (ways_of fs ls xs ks) + cut_at s t c ls xs ks p
-  gain-is p c a =
-      let own : cut s t (best (get_or fs p 0) c) (wayTo fs ls xs ks p) ≡ 0 = rw (eqb-self (get_or fs p 0)) (spared (cut_at s t c ls xs ks p) (candidate (wayTo fs ls xs ks p))) in
-      let rules : total (cut s t (best (get_or fs p 0) c)) (ways_of fs ls xs ks) ≡ total (λ q. cut s t (best (get_or fs p 0) c) (wayTo fs ls xs ks q)) (below (length xs)) =
-      ap (total (cut s t (best (get_or fs p 0) c))) (ways-are ls xs ks fs long) ∙ total-map (cut s t (best (get_or fs p 0) c)) (wayTo fs ls xs ks) (below (length xs)) in
+  gain_is p c a =
+      let own : cut s t (best (get_or fs p 0) c) (way_to fs ls xs ks p) ≡ 0 = rw (eqb_self (get_or fs p 0)) (spared (cut_at s t c ls xs ks p) (candidate (way_to fs ls xs ks p))) in
+      let rules : total (cut s t (best (get_or fs p 0) c)) (ways_of fs ls xs ks) ≡ total (λ q. cut s t (best (get_or fs p 0) c) (way_to fs ls xs ks q)) (below (length xs)) =
+      ap (total (cut s t (best (get_or fs p 0) c))) (ways_are ls xs ks fs long) ∙ total-map (cut s t (best (get_or fs p 0) c)) (way_to fs ls xs ks) (below (length xs)) in
       let flow : total (cut_at s t c ls xs ks) ps ≡ total (cut_at s t c ls xs ks) (below (length xs)) =
       ap (total (cut_at s t c ls xs ks)) r.flow
-      ∙ sym (total-keep (cut_at s t c ls xs ks) (λ q. ltb 0 (get_or xs q 0)) (below (length xs)) (cut-dry s t c ls xs ks)) in
-      omega (arith, total-but (cut_at s t c ls xs ks) (λ q. cut s t (best (get_or fs p 0) c) (wayTo fs ls xs ks q)) p (λ q n. cut-same p c q a n) (length xs) a)
+      ∙ sym (total-keep (cut_at s t c ls xs ks) (λ q. ltb 0 (get_or xs q 0)) (below (length xs)) (cut_dry s t c ls xs ks)) in
+      omega (arith, total_but (cut_at s t c ls xs ks) (λ q. cut s t (best (get_or fs p 0) c) (way_to fs ls xs ks q)) p (λ q n. cut-same p c q a n) (length xs) a)
     where
       spared : (y : ℕ) (b : Bool) → cond (b && false) y 0 ≡ 0
       spared y true = refl
       spared y false = refl
 
-  row-of : new_row d ≡ map (λ q. newFraction d (wayTo fs ls xs ks q)) (below (length xs))
-  row-of = ap (map (newFraction d)) (ways-are ls xs ks fs long) ∙ map-map (newFraction d) (wayTo fs ls xs ks) (below (length xs))
+  row_of_lem : new_row d ≡ map (λ q. new_fraction d (way_to fs ls xs ks q)) (below (length xs))
+  row_of_lem = ap (map (new_fraction d)) (ways_are ls xs ks fs long) ∙ map-map (new_fraction d) (way_to fs ls xs ks) (below (length xs))
 
-  with-best : (p c : ℕ) {g v : ℕ} {ys : List ℕ} → p < length xs → bestOf d.ways ≡ best (get_or fs p 0) c → Shorn (cut_at s t c ls xs ks) xs ps ys g
+  with_best : (p c : ℕ) {g v : ℕ} {ys : List ℕ} → p < length xs → best_of d.ways ≡ best (get_or fs p 0) c → Shorn (cut_at s t c ls xs ks) xs ps ys g
       → v ≡ get_or ys p 0 + g → set ys p v ≡ new_row d
-  with-best p c {g} {v} {ys} a e h z =
+  with_best p c {g} {v} {ys} a e h z =
       let size : length (set ys p v) ≡ length xs = length-set ys p v ∙ cut-length r h in
-      let wide : length (map (λ q. newFraction d (wayTo fs ls xs ks q)) (below (length xs))) ≡ length xs = length-map (below (length xs)) _ ∙ below_length (length xs) in
-      ext_get_or 0 (set ys p v) _ (size ∙ sym wide) (λ q b. at q (omega arith) ∙ sym (table_at (λ i. newFraction d (wayTo fs ls xs ks i)) 0 (length xs) q (omega arith)))
-      ∙ sym row-of
+      let wide : length (map (λ q. new_fraction d (way_to fs ls xs ks q)) (below (length xs))) ≡ length xs = length-map (below (length xs)) _ ∙ below_length (length xs) in
+      ext_get_or 0 (set ys p v) _ (size ∙ sym wide) (λ q b. at q (omega arith) ∙ sym (table_at (λ i. new_fraction d (way_to fs ls xs ks i)) 0 (length xs) q (omega arith)))
+      ∙ sym row_of_lem
     where
-      at : (q : ℕ) → q < length xs → get_or (set ys p v) q 0 ≡ newFraction d (wayTo fs ls xs ks q)
+      at : (q : ℕ) → q < length xs → get_or (set ys p v) q 0 ≡ new_fraction d (way_to fs ls xs ks q)
       at q b = rw e (go (ℕ_discrete q p))
         where
-          go : Dec (q ≡ p) → get_or (set ys p v) q 0 ≡ fractionWith d (best (get_or fs p 0) c) (wayTo fs ls xs ks q)
+          go : Dec (q ≡ p) → get_or (set ys p v) q 0 ≡ fraction_with d (best (get_or fs p 0) c) (way_to fs ls xs ks q)
           go (yes m) =
-              rw (m, eqb-self (get_or fs p 0))
+              rw (m, eqb_self (get_or fs p 0))
               (get_or-set_same ys p v 0 (omega (arith, cut-length r h))
-              ∙ omega (arith, z, cut-at r h p a, h.gain, gain-is p c a, cut-by-le s t (cost (wayAt ls xs ks p) - c) (get_or xs p 0)))
+              ∙ omega (arith, z, cut-at r h p a, h.gain, gain_is p c a, cut_by_le s t (cost (way_at ls xs ks p) - c) (get_or xs p 0)))
           go (no n) =
-              let other : get_or xs q 0 - cut s t (best (get_or fs p 0) c) (wayTo fs ls xs ks q) ≡ fractionWith d (best (get_or fs p 0) c) (wayTo fs ls xs ks q) =
+              let other : get_or xs q 0 - cut s t (best (get_or fs p 0) c) (way_to fs ls xs ks q) ≡ fraction_with d (best (get_or fs p 0) c) (way_to fs ls xs ks q) =
               rw (ne_eqb (get_or fs q 0) (get_or fs p 0) (apart p q a b n)) in
               get_or-set_other ys p q v 0 n ∙ cut-at r h q b ∙ ap (λ (m : ℕ). get_or xs q 0 - m) (cut-same p c q a n) ∙ other
 
   -- without a candidate nothing flows
-  still : bestOf d.ways ≡ nothing → flowing xs ≡ []
+  still : best_of d.ways ≡ nothing → flowing xs ≡ []
   still e = none_in (flowing xs) (λ p m.
-      let k = in-keep (λ q. ltb 0 (get_or xs q 0)) (below (length xs)) m in
-      let shut : BestIs d.ways nothing = subst (λ (o : Best). BestIs d.ways o) e (best-is d.ways) in
-      let listed : In (wayTo fs ls xs ks p) d.ways = subst (λ (ws : List Way). In (wayTo fs ls xs ks p) ws) (sym (ways-are ls xs ks fs long)) (Memᴰ.map (wayTo fs ls xs ks) k.0) in
-      clash (flowing-allowed (wayTo fs ls xs ks p) (ltb-true 0 (get_or xs p 0) k.1)) (shut (wayTo fs ls xs ks p) listed))
+      let k = in_keep (λ q. ltb 0 (get_or xs q 0)) (below (length xs)) m in
+      let shut : BestIs d.ways nothing = subst (λ (o : Best). BestIs d.ways o) e (best_is d.ways) in
+      let listed : In (way_to fs ls xs ks p) d.ways = subst (λ (ws : List Way). In (way_to fs ls xs ks p) ws) (sym (ways_are ls xs ks fs long)) (Memᴰ.map (way_to fs ls xs ks) k.0) in
+      clash (flowing_allowed (way_to fs ls xs ks p) (ltb-true 0 (get_or xs p 0) k.1)) (shut (way_to fs ls xs ks p) listed))
 
-  without : (i : ℕ) {f : ℕ → ℕ} {g v : ℕ} {ys : List ℕ} → bestOf d.ways ≡ nothing → Shorn f xs ps ys g → v ≡ get_or ys i 0 + g → set ys i v ≡ new_row d
+  without : (i : ℕ) {f : ℕ → ℕ} {g v : ℕ} {ys : List ℕ} → best_of d.ways ≡ nothing → Shorn f xs ps ys g → v ≡ get_or ys i 0 + g → set ys i v ≡ new_row d
   without i {f} {g} {v} {ys} e h z =
       let dry : ps ≡ [] = r.flow ∙ still e in
       let same : ys ≡ xs = h.left ∙ ap (shorn f xs) dry in
       let none : g ≡ 0 = h.gain ∙ ap (total f) dry in
       let kept : v ≡ get_or xs i 0 = omega (arith, z, none, ap (λ (l : List ℕ). get_or l i 0) same) in
       ap₂ (λ (l : List ℕ) (n : ℕ). set l i n) same kept ∙ set-get_or xs i 0 ∙ sym (read_back xs)
-      ∙ map-eq (λ q. get_or xs q 0) (λ q. newFraction d (wayTo fs ls xs ks q)) (below (length xs)) (λ q m. rw e (omega arith))
-      ∙ sym row-of
+      ∙ map_eq (λ q. get_or xs q 0) (λ q. new_fraction d (way_to fs ls xs ks q)) (below (length xs)) (λ q m. rw e (omega arith))
+      ∙ sym row_of_lem
 
   -- the row after the best has gained all that was cut
-  pub new-row-is : {k : Choice} {g v : ℕ} {ys : List ℕ} → k ≡ lowest (choiceAt ls xs ks) (below (length xs)) → Shorn (cut_at s t k.cost.0 ls xs ks) xs ps ys g
+  pub new_row_is : {k : Choice} {g v : ℕ} {ys : List ℕ} → k ≡ lowest (choice_at ls xs ks) (below (length xs)) → Shorn (cut_at s t k.cost.0 ls xs ks) xs ps ys g
       → v ≡ get_or ys k.place 0 + g → set ys k.place v ≡ new_row d
-  new-row-is {k} {g} {v} {ys} e h z = go (bestOf d.ways) refl found
+  new_row_is {k} {g} {v} {ys} e h z = go (best_of d.ways) refl found
     where
-      found : ChoiceIs fs ls xs ks (cost-top r) 0 (length xs) (bestOf d.ways) k
-      found = rw (e, ways-are ls xs ks fs long) (choice-best fs ls xs ks (cost-top r) 0 (length xs))
+      found : ChoiceIs fs ls xs ks (cost-top r) 0 (length xs) (best_of d.ways) k
+      found = rw (e, ways_are ls xs ks fs long) (choice-best fs ls xs ks (cost-top r) 0 (length xs))
 
-      go : (o : Best) → bestOf d.ways ≡ o → ChoiceIs fs ls xs ks (cost-top r) 0 (length xs) o k → set ys k.place v ≡ new_row d
+      go : (o : Best) → best_of d.ways ≡ o → ChoiceIs fs ls xs ks (cost-top r) 0 (length xs) o k → set ys k.place v ≡ new_row d
       go nothing q u = without k.place q h z
       go (best f m) q u =
-          with-best k.place m (omega (arith, u.inside)) (q ∙ ap (λ (n : ℕ). best n m) u.far-is)
-          (subst (λ (n : ℕ). Shorn (cut_at s t n ls xs ks) xs ps ys g) u.cost-is h) z
+          with_best k.place m (omega (arith, u.inside)) (q ∙ ap (λ (n : ℕ). best n m) u.far_is)
+          (subst (λ (n : ℕ). Shorn (cut_at s t n ls xs ks) xs ps ys g) u.cost_is h) z

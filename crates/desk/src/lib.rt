@@ -3,10 +3,10 @@
 // No far node is looked at: the links of a row rise by it, so the lower place is the lower far node.
 ghost use Rattle.std.specs.Prelude.{◌≡◌, ℕ, ◌+◌, ◌-◌, ◌*◌, ◌/◌, ◌≤◌, ◌<◌, List, leb, length};
 ghost use Rattle.rules.specs.Lists.{total, exists, below};
-ghost use Rattle.rules.specs.Sheet.{whole, largestStep, largestDelay};
-ghost use Rattle.rules.specs.Desk.{delayTold, markTold, heard, cost, weighed, blocks, message, cutBy, new_row};
-ghost use Rattle.desk.specs.Ways.{toldOf, messageSaid, ways_of, deskWith, Row, Rises};
-ghost use Rattle.desk.specs.Work.{waySaid, Small, wayAt, Held, beyond, barrier, choice, choiceAt, lower, lowest, cut_at, Shorn};
+ghost use Rattle.rules.specs.Sheet.{whole, largest_step, largest_delay};
+ghost use Rattle.rules.specs.Desk.{delay_told, mark_told, heard, cost, weighed, blocks, message, cut_by, new_row};
+ghost use Rattle.desk.specs.Ways.{told_of, message_said, ways_of, desk_with, Row, Rises};
+ghost use Rattle.desk.specs.Work.{way_said, Small, way_at, Held, beyond, barrier, choice, choice_at, lower, lowest, cut_at, Shorn};
 
 use numbers::{Delay, Fraction, Step, Traffic};
 
@@ -45,8 +45,8 @@ struct Choice {
 
 // What a node tells, as its word.
 pub fn told_by(m: Message) -> Told
-    requires { m.delay.0 ≤ largestDelay }
-    ensures { (toldOf result.0 ≡ messageSaid m) × (result.0 / 4 ≡ m.delay.0) × (0 < result.0) }
+    requires { m.delay.0 ≤ largest_delay }
+    ensures { (told_of result.0 ≡ message_said m) × (result.0 / 4 ≡ m.delay.0) × (0 < result.0) }
 {
     if m.blocked {
         Told(m.delay.0 * 4 + 3)
@@ -57,27 +57,27 @@ pub fn told_by(m: Message) -> Told
 
 // Was the far node heard?
 pub fn is_heard(w: Told) -> bool
-    ensures { result ≡ heard (toldOf w.0) }
+    ensures { result ≡ heard (told_of w.0) }
 {
     w.0 != 0
 }
 
 // The delay that was told, 0 while the far node is silent.
 fn delay_told(w: Told) -> Delay
-    ensures { (result.0 ≡ delayTold (toldOf w.0)) × (result.0 ≡ w.0 / 4) }
+    ensures { (result.0 ≡ delay_told (told_of w.0)) × (result.0 ≡ w.0 / 4) }
 {
     Delay(w.0 / 4)
 }
 
 fn is_marked(w: Told) -> bool
-    ensures { result ≡ markTold (toldOf w.0) }
+    ensures { result ≡ mark_told (told_of w.0) }
 {
     w.0 / 2 % 2 == 1
 }
 
 fn way_at(line: &[u32], fraction: &[u32], inbox: &[u32], p: usize) -> WayHeld
     requires { Held line.now fraction.now inbox.now p }
-    ensures { (waySaid result ≡ wayAt line.now fraction.now inbox.now p) × Small result }
+    ensures { (way_said result ≡ way_at line.now fraction.now inbox.now p) × Small result }
 {
     WayHeld {
         line: Delay(line[p]),
@@ -89,7 +89,7 @@ fn way_at(line: &[u32], fraction: &[u32], inbox: &[u32], p: usize) -> WayHeld
 // c: the line and the delay at its far end.
 fn cost_of(w: WayHeld) -> Delay
     requires { Small w }
-    ensures { (result.0 ≡ cost (waySaid w)) × (result.0 ≤ largestDelay) }
+    ensures { (result.0 ≡ cost (way_said w)) × (result.0 ≤ largest_delay) }
 {
     let h = delay_told(w.word);
     Delay(w.line.0 + h.0)
@@ -97,7 +97,7 @@ fn cost_of(w: WayHeld) -> Delay
 
 fn weigh(w: WayHeld) -> DelaySum
     requires { Small w }
-    ensures { result.0 ≡ weighed (waySaid w) }
+    ensures { result.0 ≡ weighed (way_said w) }
 {
     let c = cost_of(w);
     DelaySum((w.fraction.0 as u64) * (c.0 as u64))
@@ -111,8 +111,8 @@ fn plus(a: DelaySum, b: DelaySum) -> DelaySum
 }
 
 fn floored(a: DelaySum) -> Delay
-    requires { a.0 ≤ whole * largestDelay }
-    ensures { (result.0 ≡ a.0 / whole) × (result.0 ≤ largestDelay) }
+    requires { a.0 ≤ whole * largest_delay }
+    ensures { (result.0 ≡ a.0 / whole) × (result.0 ≤ largest_delay) }
 {
     Delay((a.0 / (Fraction::WHOLE.0 as u64)) as u32)
 }
@@ -130,7 +130,7 @@ fn excess(c: Delay, least: Delay) -> Delay
 
 // Is as much or more sent that way, by the fraction, as the step allows at a rise of d?
 fn heavy(s: Step, t: Traffic, d: Delay, f: Fraction) -> bool
-    requires { (s.0 ≤ largestStep) × (d.0 ≤ largestDelay) × (f.0 ≤ whole) }
+    requires { (s.0 ≤ largest_step) × (d.0 ≤ largest_delay) × (f.0 ≤ whole) }
     ensures { result ≡ leb (s.0 * d.0) (f.0 * t.0) }
 {
     (s.0 as u64) * (d.0 as u64) <= (f.0 as u64) * (t.0 as u64)
@@ -138,8 +138,8 @@ fn heavy(s: Step, t: Traffic, d: Delay, f: Fraction) -> bool
 
 // Does a flowing way block its node, whose own delay is m?
 fn is_blocking(s: Step, t: Traffic, m: Delay, w: WayHeld) -> bool
-    requires { Small w × (s.0 ≤ largestStep) × (0 < w.fraction.0) }
-    ensures { result ≡ blocks s.0 t.0 m.0 (waySaid w) }
+    requires { Small w × (s.0 ≤ largest_step) × (0 < w.fraction.0) }
+    ensures { result ≡ blocks s.0 t.0 m.0 (way_said w) }
 {
     let h = delay_told(w.word);
     let much = heavy(s, t, excess(cost_of(w), m), w.fraction);
@@ -149,7 +149,7 @@ fn is_blocking(s: Step, t: Traffic, m: Delay, w: WayHeld) -> bool
 // The node's own delay, MD.
 fn row_delay(line: &[u32], fraction: &[u32], inbox: &[u32], flow: &[u16]) -> Delay
     requires { Row line.now fraction.now inbox.now flow.now }
-    ensures { (result.0 ≡ total (λ p. weighed (wayAt line.now fraction.now inbox.now p)) flow.now / whole) × (result.0 ≤ largestDelay) }
+    ensures { (result.0 ≡ total (λ p. weighed (way_at line.now fraction.now inbox.now p)) flow.now / whole) × (result.0 ≤ largest_delay) }
 {
     let mut sum = DelaySum(0);
     let mut j = flow.len();
@@ -171,8 +171,8 @@ fn row_blocked(
     inbox: &[u32],
     flow: &[u16],
 ) -> bool
-    requires { Row line.now fraction.now inbox.now flow.now × (s.0 ≤ largestStep) }
-    ensures { result ≡ exists (λ p. blocks s.0 t.0 m.0 (wayAt line.now fraction.now inbox.now p)) flow.now }
+    requires { Row line.now fraction.now inbox.now flow.now × (s.0 ≤ largest_step) }
+    ensures { result ≡ exists (λ p. blocks s.0 t.0 m.0 (way_at line.now fraction.now inbox.now p)) flow.now }
 {
     let mut r = false;
     let mut j = flow.len();
@@ -193,8 +193,8 @@ pub fn row_message(
     inbox: &[u32],
     flow: &[u16],
 ) -> Message
-    requires { Row line.now fraction.now inbox.now flow.now × (s.0 ≤ largestStep) }
-    ensures { ((fs : List ℕ) → length fs ≡ length fraction.now → messageSaid result ≡ message (deskWith s.0 t.0 (ways_of fs line.now fraction.now inbox.now))) × (result.delay.0 ≤ largestDelay) }
+    requires { Row line.now fraction.now inbox.now flow.now × (s.0 ≤ largest_step) }
+    ensures { ((fs : List ℕ) → length fs ≡ length fraction.now → message_said result ≡ message (desk_with s.0 t.0 (ways_of fs line.now fraction.now inbox.now))) × (result.delay.0 ≤ largest_delay) }
 {
     let m = row_delay(line, fraction, inbox, flow);
     let b = row_blocked(s, t, m, line, fraction, inbox, flow);
@@ -206,7 +206,7 @@ pub fn row_message(
 
 // 0 for a candidate, and for another so much that its cost lies beyond every candidate's.
 fn barrier_of(w: WayHeld) -> Delay
-    ensures { (result.0 ≡ barrier (waySaid w)) × (result.0 ≤ beyond) }
+    ensures { (result.0 ≡ barrier (way_said w)) × (result.0 ≤ beyond) }
 {
     if (w.fraction.0 == 0) & is_marked(w.word) {
         BEYOND
@@ -217,7 +217,7 @@ fn barrier_of(w: WayHeld) -> Delay
 
 fn barred_cost(w: WayHeld) -> Delay
     requires { Small w }
-    ensures { result.0 ≡ cost (waySaid w) + barrier (waySaid w) }
+    ensures { result.0 ≡ cost (way_said w) + barrier (way_said w) }
 {
     let c = cost_of(w);
     let b = barrier_of(w);
@@ -239,7 +239,7 @@ fn better(c: Delay, p: usize, b: Choice) -> Choice
 // The row's best way. Two numbers: their least as one is worked out in vectors, which is slower for a row's few links.
 fn row_best(line: &[u32], fraction: &[u32], inbox: &[u32]) -> Choice
     requires { (p : ℕ) → p < length fraction.now → Held line.now fraction.now inbox.now p }
-    ensures { result ≡ lowest (choiceAt line.now fraction.now inbox.now) (below (length fraction.now)) }
+    ensures { result ≡ lowest (choice_at line.now fraction.now inbox.now) (below (length fraction.now)) }
 {
     let mut b = Choice {
         cost: BEYOND,
@@ -255,8 +255,8 @@ fn row_best(line: &[u32], fraction: &[u32], inbox: &[u32]) -> Choice
 
 // What is cut from a fraction whose link costs d more than the best.
 fn cut_by(s: Step, t: Traffic, d: Delay, f: Fraction) -> Fraction
-    requires { (s.0 ≤ largestStep) × (d.0 ≤ largestDelay) }
-    ensures { (result.0 ≡ cutBy s.0 t.0 d.0 f.0) × (result.0 ≤ f.0) }
+    requires { (s.0 ≤ largest_step) × (d.0 ≤ largest_delay) }
+    ensures { (result.0 ≡ cut_by s.0 t.0 d.0 f.0) × (result.0 ≤ f.0) }
 {
     if t.0 == 0 {
         return f;
@@ -282,8 +282,8 @@ fn less(a: Fraction, b: Fraction) -> Fraction
 
 // What is cut from a way, where the best costs least.
 fn cut_of(s: Step, t: Traffic, least: Delay, w: WayHeld) -> Fraction
-    requires { Small w × (s.0 ≤ largestStep) }
-    ensures { (result.0 ≡ cutBy s.0 t.0 (cost (waySaid w) - least.0) w.fraction.0) × (result.0 ≤ w.fraction.0) }
+    requires { Small w × (s.0 ≤ largest_step) }
+    ensures { (result.0 ≡ cut_by s.0 t.0 (cost (way_said w) - least.0) w.fraction.0) × (result.0 ≤ w.fraction.0) }
 {
     cut_by(s, t, excess(cost_of(w), least), w.fraction)
 }
@@ -298,7 +298,7 @@ fn cut_row(
     flow: &[u16],
     row: &mut [u32],
 ) -> Fraction
-    requires { Row line.now row.old inbox.now flow.now × (s.0 ≤ largestStep) }
+    requires { Row line.now row.old inbox.now flow.now × (s.0 ≤ largest_step) }
     ensures { Shorn (cut_at s.0 t.0 least.0 line.now row.old inbox.now) row.old flow.now row.new result.0 }
 {
     let mut g = Fraction(0);
@@ -317,8 +317,8 @@ fn cut_row(
 
 // The row's new fractions in place of the old: the best gains all that was cut, what was cut from itself included.
 pub fn new_row(s: Step, t: Traffic, line: &[u32], inbox: &[u32], flow: &[u16], row: &mut [u32])
-    requires { Row line.now row.old inbox.now flow.now × (s.0 ≤ largestStep) }
-    ensures { (fs : List ℕ) → length fs ≡ length row.old → Rises fs → row.new ≡ new_row (deskWith s.0 t.0 (ways_of fs line.now row.old inbox.now)) }
+    requires { Row line.now row.old inbox.now flow.now × (s.0 ≤ largest_step) }
+    ensures { (fs : List ℕ) → length fs ≡ length row.old → Rises fs → row.new ≡ new_row (desk_with s.0 t.0 (ways_of fs line.now row.old inbox.now)) }
 {
     if row.len() == 0 {
         return;

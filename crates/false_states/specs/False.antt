@@ -1,15 +1,15 @@
 -- False states made by storing a word, and what the code works out from them.
 use Rattle.std.specs.Prelude.{ℕ, ◌*◌, ◌/◌, ◌≤◌, ◌<◌, ◌≡◌, Bool, true, false, List, [], ◌∷◌, map, length, get_or, set}
-use Rattle.rules.specs.Sheet.{Sheet, largestStored}
+use Rattle.rules.specs.Sheet.{Sheet, largest_stored}
 use Rattle.rules.specs.Judge.{accepted}
 use Rattle.rules.specs.Check.{check}
 use Rattle.rules.specs.Desk.{Told, silent, told, message}
-use Rattle.rules.specs.Round.{fullDesk}
+use Rattle.rules.specs.Round.{full_desk}
 use Rattle.rules.specs.Messages.{State, start, link_of, deliver, left, run, outcome, house}
 use Rattle.desk.specs.declared.Message.{Message}
-use Rattle.desk.specs.Ways.{toldOf, messageSaid}
+use Rattle.desk.specs.Ways.{told_of, message_said}
 use Rattle.sheet.specs.declared.SheetHeld.{SheetHeld}
-use Rattle.sheet.specs.Held.{sheetSaid}
+use Rattle.sheet.specs.Held.{sheet_said}
 use Rattle.node.specs.Net.{Net, Empty}
 use Rattle.messages.specs.Round.{NetHeld}
 use Rattle.admit.specs.Opened.{Ready}
@@ -18,12 +18,12 @@ use Rattle.false_states.specs.declared.Follows.{Follows}
 
 -- ---- by the rules
 -- what the delivery on link k stores where only link j was delivered, with the word w
-abbrev pub carriedBy : Sheet → ℕ → Told → ℕ → Told
-carriedBy s j w k = get_or (deliver s (set (start s) j w) k) k silent
+abbrev pub carried_by : Sheet → ℕ → Told → ℕ → Told
+carried_by s j w k = get_or (deliver s (set (start s) j w) k) k silent
 
 -- the sheet with each node's new row in the state st, but that the word w is stored on link j
-abbrev pub takenBy : Sheet → State → ℕ → Told → Sheet
-takenBy s st j w = outcome s (set st j w)
+abbrev pub taken_by : Sheet → State → ℕ → Told → Sheet
+taken_by s st j w = outcome s (set st j w)
 
 -- ---- over the slices
 
@@ -35,7 +35,7 @@ pub record Placed (j : ℕ) (os inbox : List ℕ) : Type 0 where
 -- a word that is told, with such a delay
 pub record Word (w : ℕ) : Type 0 where
   pub heard : 0 < w
-  pub small : w / 4 ≤ largestStored
+  pub small : w / 4 ≤ largest_stored
 
 -- nothing is delivered, and there is room for the state
 pub record SentAsked (j w k : ℕ) (h : SheetHeld) (tr fs ss gs ps line xs os inbox qs : List ℕ) : Type 0 where
@@ -49,7 +49,7 @@ pub record SentAsked (j w k : ℕ) (h : SheetHeld) (tr fs ss gs ps line xs os in
 -- what the rules send on link k where only link j was delivered and w is stored there, of the one sheet that the slices hold
 pub record Sent (r j w k : ℕ) (h : SheetHeld) (tr fs ss gs ps line xs os : List ℕ) : Type 0 where
   pub said : {ts ls : List ℕ} → Net h tr fs ts ls xs ss gs ps os line
-      → toldOf r ≡ carriedBy (sheetSaid h tr fs ts ls xs) j (toldOf w) k
+      → told_of r ≡ carried_by (sheet_said h tr fs ts ls xs) j (told_of w) k
 
 pub record RowsAsked (j w : ℕ) (h : SheetHeld) (tr fs ss gs ps line xs os inbox qs : List ℕ) : Type 0 where
   pub held : NetHeld h tr fs ss gs ps line xs os
@@ -60,45 +60,45 @@ pub record RowsAsked (j w : ℕ) (h : SheetHeld) (tr fs ss gs ps line xs os inbo
 
 -- the fractions ys are the outcome, by the rules, of the state that the list leaves with w stored on link j
 pub record RowsTaken (r : Bool) (js : List ℕ) (j w : ℕ) (h : SheetHeld) (tr fs ss gs ps line os xs ys : List ℕ) : Type 0 where
-  pub said : {ts ls : List ℕ} → Net h tr fs ts ls xs ss gs ps os line → (st : State) → run (sheetSaid h tr fs ts ls xs) js ≡ left st
-      → (r ≡ true) × (sheetSaid h tr fs ts ls ys ≡ takenBy (sheetSaid h tr fs ts ls xs) st j (toldOf w))
+  pub said : {ts ls : List ℕ} → Net h tr fs ts ls xs ss gs ps os line → (st : State) → run (sheet_said h tr fs ts ls xs) js ≡ left st
+      → (r ≡ true) × (sheet_said h tr fs ts ls ys ≡ taken_by (sheet_said h tr fs ts ls xs) st j (told_of w))
 
 -- over an accepted sheet, of the one that the slices hold
 pub record SentWith (r j : ℕ) (m : Message) (k : ℕ) (h : SheetHeld) (tr fs ls xs ss gs ps os : List ℕ) : Type 0 where
-  pub said : {b ts ord turn : List ℕ} → Ready h b tr fs ts ls xs ss gs ps os ord turn → toldOf r ≡ carriedBy (sheetSaid h tr fs ts ls xs) j (messageSaid m) k
+  pub said : {b ts ord turn : List ℕ} → Ready h b tr fs ts ls xs ss gs ps os ord turn → told_of r ≡ carried_by (sheet_said h tr fs ts ls xs) j (message_said m) k
 
 pub record TakenWith (r : Bool) (j : ℕ) (m : Message) (h : SheetHeld) (tr fs ls xs ss gs ps os ys : List ℕ) : Type 0 where
   pub said : {b ts ord turn : List ℕ} → Ready h b tr fs ts ls xs ss gs ps os ord turn
-      → (st : State) → run (sheetSaid h tr fs ts ls xs) (house (sheetSaid h tr fs ts ls xs)) ≡ left st
-      → (r ≡ true) × (sheetSaid h tr fs ts ls ys ≡ takenBy (sheetSaid h tr fs ts ls xs) st j (messageSaid m))
+      → (st : State) → run (sheet_said h tr fs ts ls xs) (house (sheet_said h tr fs ts ls xs)) ≡ left st
+      → (r ≡ true) × (sheet_said h tr fs ts ls ys ≡ taken_by (sheet_said h tr fs ts ls xs) st j (message_said m))
 
 -- ---- of a sheet's bytes
 -- the word that the answer says
-abbrev pub wordSaid : Follows → Told
-wordSaid Follows.Nothing = silent
-wordSaid (Follows.Carried w) = toldOf w.0
-wordSaid (Follows.Taken n) = silent
+abbrev pub word_said : Follows → Told
+word_said Follows.Nothing = silent
+word_said (Follows.Carried w) = told_of w.0
+word_said (Follows.Taken n) = silent
 
 -- the answer r, with the fractions ys, is right for the sheet s with the word w stored on link j
 abbrev pub FollowedBy : Question → Sheet → ℕ → Told → Follows → List ℕ → Type 0
-FollowedBy (Question.Carries k) s j w r ys = k < length s.links → wordSaid r ≡ carriedBy s j w k
+FollowedBy (Question.Carries k) s j w r ys = k < length s.links → word_said r ≡ carried_by s j w k
 FollowedBy Question.Rows s j w r ys = (st : State) → run s (house s) ≡ left st
-    → (r ≡ Follows.Taken (length s.links)) × ((i : ℕ) → i < length s.links → get_or ys i 0 ≡ (link_of (takenBy s st j w) i).fraction)
+    → (r ≡ Follows.Taken (length s.links)) × ((i : ℕ) → i < length s.links → get_or ys i 0 ≡ (link_of (taken_by s st j w) i).fraction)
 
 pub record Followed (q : Question) (b : List ℕ) (j : ℕ) (m : Message) (r : Follows) (ys : List ℕ) : Type 0 where
-  pub said : (s : Sheet) → check b ≡ accepted s → j < length s.links → FollowedBy q s j (messageSaid m) r ys
+  pub said : (s : Sheet) → check b ≡ accepted s → j < length s.links → FollowedBy q s j (message_said m) r ys
 
 -- ---- the two cases of document 01; links 0, 2, 3 and 5 are plate A's (0,1), (1,0), (1,2) and (2,1)
 -- what goes on (1,2) where only (0,1) was delivered, and the delay d is stored there, unmarked
-abbrev pub sentBy : Sheet → ℕ → Told
-sentBy s d = carriedBy s 0 (told d false) 3
+abbrev pub sent_by : Sheet → ℕ → Told
+sent_by s d = carried_by s 0 (told d false) 3
 
 -- node 1's new row in the state st, but that the delay d is stored on (2,1), unmarked
 abbrev pub row_by : Sheet → State → ℕ → List ℕ
 row_by s st d =
-    let t : Sheet = takenBy s st 5 (told d false) in
+    let t : Sheet = taken_by s st 5 (told d false) in
     (link_of t 2).fraction ∷ (link_of t 3).fraction ∷ []
 
 -- everything delivered, with the calculation's words
 abbrev pub everything : Sheet → State
-everything s = map (λ l. message (fullDesk s l.from)) s.links
+everything s = map (λ l. message (full_desk s l.from)) s.links

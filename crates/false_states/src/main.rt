@@ -6,11 +6,11 @@
 mod plate_a;
 
 ghost use Rattle.std.specs.Prelude.{◌≡◌, [], ◌∷◌, ◌+◌, ◌*◌, ◌≤◌, ◌<◌, length, get_or};
-ghost use Rattle.rules.specs.Sheet.{largestStored};
-ghost use Rattle.rules.specs.Plates.{plateA};
-ghost use Rattle.desk.specs.Ways.{toldOf};
+ghost use Rattle.rules.specs.Sheet.{largest_stored};
+ghost use Rattle.rules.specs.Plates.{plate_a};
+ghost use Rattle.desk.specs.Ways.{told_of};
 ghost use Rattle.play.specs.Played.{AnyAccepted};
-ghost use Rattle.false_states.specs.False.{Placed, SentAsked, Sent, RowsAsked, RowsTaken, SentWith, TakenWith, Followed, wordSaid, sentBy, row_by, everything};
+ghost use Rattle.false_states.specs.False.{Placed, SentAsked, Sent, RowsAsked, RowsTaken, SentWith, TakenWith, Followed, word_said, sent_by, row_by, everything};
 
 use admit::Opened;
 use desk::{Message, Told};
@@ -175,7 +175,7 @@ fn sent_with(
     fraction: &[u32],
     opposite: &[u16],
 ) -> Told
-    requires { AnyAccepted h traffic.now from.now load.now fraction.now starts.now flow_starts.now flow.now opposite.now × (j < h.links) × (k < h.links) × (m.delay.0 ≤ largestStored) × (length to.now ≡ 512) }
+    requires { AnyAccepted h traffic.now from.now load.now fraction.now starts.now flow_starts.now flow.now opposite.now × (j < h.links) × (k < h.links) × (m.delay.0 ≤ largest_stored) × (length to.now ≡ 512) }
     ensures { SentWith result.0 j m k h traffic.now from.now load.now fraction.now starts.now flow_starts.now flow.now opposite.now }
 {
     let mut line = [0u32; 512];
@@ -218,7 +218,7 @@ fn taken_with(
     opposite: &[u16],
     fraction: &mut [u32],
 ) -> bool
-    requires { AnyAccepted h traffic.now from.now load.now fraction.old starts.now flow_starts.now flow.now opposite.now × (j < h.links) × (m.delay.0 ≤ largestStored) × (length to.now ≡ 512) }
+    requires { AnyAccepted h traffic.now from.now load.now fraction.old starts.now flow_starts.now flow.now opposite.now × (j < h.links) × (m.delay.0 ≤ largest_stored) × (length to.now ≡ 512) }
     ensures { TakenWith result j m h traffic.now from.now load.now fraction.old starts.now flow_starts.now flow.now opposite.now fraction.new }
 {
     let mut line = [0u32; 512];
@@ -262,7 +262,7 @@ fn taken_with(
 
 // What follows where m is stored on link j of a sheet.
 fn work_out(question: Question, sheet: &[u8], j: usize, m: Message, fraction: &mut [u32]) -> Follows
-    requires { (m.delay.0 ≤ largestStored) × (length fraction.old ≡ 512) }
+    requires { (m.delay.0 ≤ largest_stored) × (length fraction.old ≡ 512) }
     ensures { Followed question sheet.now j m result fraction.new }
 {
     let mut traffic = [0u32; 64];
@@ -342,7 +342,7 @@ fn work_out(question: Question, sheet: &[u8], j: usize, m: Message, fraction: &m
 }
 
 fn word_in(f: Follows) -> Told
-    ensures { toldOf result.0 ≡ wordSaid f }
+    ensures { told_of result.0 ≡ word_said f }
 {
     match f {
         Follows::Nothing => Told(0),
@@ -353,8 +353,8 @@ fn word_in(f: Follows) -> Told
 
 // Plate A, with the delay stored on (0,1), unmarked, and nothing else delivered: what goes on (1,2).
 fn word_on_plate_a(delay: Delay) -> Told
-    requires { delay.0 ≤ largestStored }
-    ensures { toldOf result.0 ≡ sentBy plateA delay.0 }
+    requires { delay.0 ≤ largest_stored }
+    ensures { told_of result.0 ≡ sent_by plate_a delay.0 }
 {
     let sheet = plate_a::BYTES;
     let mut fraction = [0u32; 512];
@@ -373,8 +373,8 @@ fn word_on_plate_a(delay: Delay) -> Told
 
 // Plate A, with everything delivered and the delay stored on (2,1), unmarked: node 1's new row.
 fn row_on_plate_a(delay: Delay) -> RowHeld
-    requires { delay.0 ≤ largestStored }
-    ensures { (result.direct.0 ∷ result.over.0 ∷ []) ≡ row_by plateA (everything plateA) delay.0 }
+    requires { delay.0 ≤ largest_stored }
+    ensures { (result.direct.0 ∷ result.over.0 ∷ []) ≡ row_by plate_a (everything plate_a) delay.0 }
 {
     let sheet = plate_a::BYTES;
     let mut fraction = [0u32; 512];
@@ -420,7 +420,7 @@ fn mark_in(w: Told) -> u32 {
 }
 
 fn show_word(kind: &[u8], delay: Delay)
-    requires { delay.0 ≤ largestStored }
+    requires { delay.0 ≤ largest_stored }
 {
     print_stored(kind, delay, b" on (0,1), nothing else delivered: ");
     let w = word_on_plate_a(delay);
@@ -434,7 +434,7 @@ fn show_word(kind: &[u8], delay: Delay)
 }
 
 fn show_row(kind: &[u8], delay: Delay)
-    requires { delay.0 ≤ largestStored }
+    requires { delay.0 ≤ largest_stored }
 {
     print_stored(kind, delay, b" on (2,1), everything delivered: ");
     let row = row_on_plate_a(delay);

@@ -1,11 +1,11 @@
 // What Frame writes of a state: six bytes a node, taken by the same rules as a message.
 ghost use Rattle.std.specs.Prelude.{◌≡◌, ◌∷◌, ◌+◌, ◌≤◌, length};
 ghost use Rattle.rules.specs.Lists.{bit};
-ghost use Rattle.rules.specs.Sheet.{largestStep};
+ghost use Rattle.rules.specs.Sheet.{largest_step};
 ghost use Rattle.rules.specs.Bytes.{four};
 ghost use Rattle.sheet.specs.Held.{patched};
 ghost use Rattle.node.specs.Net.{RowAt};
-ghost use Rattle.frames.specs.Frames.{frameSaid, Shows, FramesAsked, FramesWritten};
+ghost use Rattle.frames.specs.Frames.{frame_said, Shows, FramesAsked, FramesWritten};
 
 use desk::Message;
 use messages::Quiet;
@@ -22,7 +22,7 @@ struct Shown {
 
 // A node that has worked its message out shows it.
 fn shown_of(status: u8, m: Message) -> Shown
-    ensures { frameSaid result ≡ status ∷ bit m.blocked ∷ four m.delay.0 }
+    ensures { frame_said result ≡ status ∷ bit m.blocked ∷ four m.delay.0 }
 {
     let delay = m.delay;
     if m.blocked {
@@ -52,7 +52,7 @@ fn show_node(
     fraction: &[u32],
     inbox: &[u32],
 ) -> Shown
-    requires { RowAt i starts.now flow_starts.now flow.now line.now fraction.now inbox.now × (s.0 ≤ largestStep) }
+    requires { RowAt i starts.now flow_starts.now flow.now line.now fraction.now inbox.now × (s.0 ≤ largest_step) }
     ensures { Shows result s.0 t.0 q.0 starts.now line.now fraction.now inbox.now i }
 {
     let status = messages::status_of(q);
@@ -69,7 +69,7 @@ fn show_node(
 
 fn put_frame(out: &mut [u8], o: usize, x: Shown)
     requires { o + 6 ≤ length out.old }
-    ensures { out.new ≡ patched o (frameSaid x) out.old }
+    ensures { out.new ≡ patched o (frame_said x) out.old }
 {
     out[o] = x.status;
     out[o + 1] = x.blocked;

@@ -9,15 +9,15 @@ use Rattle.answers.specs.Answers.{Numbers, told, numbers, Answered, packed, Expo
 use Rattle.answers.specs.declared.Answer.{Answer}
 
 -- what an answer tells fits its half
-value-of : (reply : Reply) → (numbers reply).value ≡ value_of reply
-value-of (refusal n p) = refl
-value-of (answer v new) = refl
+value_of_lem : (reply : Reply) → (numbers reply).value ≡ value_of reply
+value_of_lem (refusal n p) = refl
+value_of_lem (answer v new) = refl
 
 pub value-fits : (a : Answer) (reply : Reply) → told a ≡ numbers reply → value_of reply ≤ 4488 → (told a).value < 4294967296
-value-fits a reply e h = omega (arith, ap (λ (x : Numbers). x.value) e, value-of reply)
+value-fits a reply e h = omega (arith, ap (λ (x : Numbers). x.value) e, value_of_lem reply)
 
-pub answered-fits : {a : Answer} {reply : Reply} {old new : List ℕ} → Answered a reply old new → value_of reply ≤ 4488 → (told a).value < 4294967296
-answered-fits {a} {reply} w h = value-fits a reply w.says h
+pub answered_fits : {a : Answer} {reply : Reply} {old new : List ℕ} → Answered a reply old new → value_of reply ≤ 4488 → (told a).value < 4294967296
+answered_fits {a} {reply} w h = value-fits a reply w.says h
 
 pub exported : {a : Answer} {r : ℕ} {reply : Reply} {old new : List ℕ} → r ≡ packed (told a) → Answered a reply old new → Exported r reply old new
 exported e w = record { says = e ∙ ap packed w.says; writes = w.writes }

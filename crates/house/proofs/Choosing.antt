@@ -9,143 +9,143 @@ use mathlib.Core.List.{List, [], ◌∷◌, ◌++◌, map, append_assoc, append-
 use lib.ListN.{length, get_or, take, drop, set, length-set, replicate, length-map, length-replicate, take-append-drop}
 use lib.Seq.{take-suc-set, drop-set-lt, drop-drop, get_or-set_same, get_or-set_other}
 use Rattle.rules.specs.Lists.{bit, below, Place, at}
-use Rattle.rules.specs.Sheet.{Sheet, lineDelay}
+use Rattle.rules.specs.Sheet.{Sheet, line_delay}
 use Rattle.rules.specs.Desk.{silent, heard, message}
-use Rattle.rules.specs.Messages.{State, start, sender, waits, deliver, delivered, lowestWaiting, chosen, houseFrom, house}
-use Rattle.rules.proofs.Lists.{below_length, table_at, table-out}
+use Rattle.rules.specs.Messages.{State, start, sender, waits, deliver, delivered, lowest_waiting, chosen, house_from, house}
+use Rattle.rules.proofs.Lists.{below_length, table_at, table_out}
 use Rattle.rules.proofs.Desk.{line-top}
 use Rattle.rules.proofs.First.{lowest-below}
 use Rattle.rules.proofs.Right.{undelivered}
-use Rattle.rules.proofs.Live.{count-start, some-waits}
-use Rattle.rules.proofs.Alike.{HeardAlike, waits-alike}
-use Rattle.desk.specs.Ways.{toldOf}
+use Rattle.rules.proofs.Live.{count_start, some-waits}
+use Rattle.rules.proofs.Alike.{HeardAlike, waits_alike}
+use Rattle.desk.specs.Ways.{told_of}
 use Rattle.sheet.specs.declared.SheetHeld.{SheetHeld}
-use Rattle.sheet.specs.Held.{sheetSaid}
+use Rattle.sheet.specs.Held.{sheet_said}
 use Rattle.network.specs.Rows.{Flow}
-use Rattle.network.proofs.Rows.{held-length, rising-sorted}
-use Rattle.node.specs.Net.{stateSaid, Graph, Net, Empty}
-use Rattle.node.proofs.Held.{state-length, links-few}
+use Rattle.network.proofs.Rows.{held-length, rising_sorted}
+use Rattle.node.specs.Net.{state_said, Graph, Net, Empty}
+use Rattle.node.proofs.Held.{state_length, links-few}
 use Rattle.messages.specs.declared.Tally.{Tally}
 use Rattle.messages.specs.declared.Change.{Change}
-use Rattle.messages.specs.State.{waitingAt, step_of, Kept, LinkAt, Counted, Stored, RowsAt, Begun}
+use Rattle.messages.specs.State.{waiting_at, step_of, Kept, LinkAt, Counted, Stored, RowsAt, Begun}
 use Rattle.messages.proofs.Counts.{heard-set}
 use Rattle.messages.proofs.Storing.{from_in, waits_kept, link_at, counted-kept}
-use Rattle.messages.proofs.Beginning.{rows_at, state-start, begun_kept}
+use Rattle.messages.proofs.Beginning.{rows_at, state_start, begun_kept}
 use Rattle.house.specs.declared.Spot.{Spot}
 use Rattle.house.specs.House.{Passed, Searchable, LowestAt, Found, ChosenStored, GraphHeld, HouseWritten}
-use Rattle.house.proofs.Digits.{every-live}
+use Rattle.house.proofs.Digits.{every_live}
 
 -- ---- the net of a graph: its lines' delays stand in no slice here
 module _ {h : SheetHeld} {tr fs ts ls xs ss os : List ℕ} (graph : Graph h tr fs ts ls xs ss os) where
   abbrev lines : List ℕ
-  lines = map (λ j. lineDelay (get_or ls j 0)) (below 512)
+  lines = map (λ j. line_delay (get_or ls j 0)) (below 512)
 
   line_small : (j : ℕ) → get_or lines j 0 ≤ 1048576
   line_small j = go (dec_lt j 512)
     where
       go : Dec (j < 512) → get_or lines j 0 ≤ 1048576
-      go (yes a) = omega (arith, table_at (λ j. lineDelay (get_or ls j 0)) 0 512 j a, line-top (get_or ls j 0))
-      go (no a) = omega (arith, table-out (λ j. lineDelay (get_or ls j 0)) 0 512 j (omega arith))
+      go (yes a) = omega (arith, table_at (λ j. line_delay (get_or ls j 0)) 0 512 j a, line-top (get_or ls j 0))
+      go (no a) = omega (arith, table_out (λ j. line_delay (get_or ls j 0)) 0 512 j (omega arith))
 
   graph-net : {gs ps : List ℕ} → Flow h.head.nodes ss xs gs ps → length gs ≡ 65 → length ps ≡ 512 → Net h tr fs ts ls xs ss gs ps os lines
   graph-net flow a b = record {
     graph = graph;
     flow = flow;
-    line-right = λ j l. table_at (λ j. lineDelay (get_or ls j 0)) 0 512 j (omega (arith, links-few graph));
+    line-right = λ j l. table_at (λ j. line_delay (get_or ls j 0)) 0 512 j (omega (arith, links-few graph));
     line_small = line_small;
-    flow-start-size = a;
+    flow-start_size = a;
     flow-size = b;
-    line-size = length-map (below 512) (λ j. lineDelay (get_or ls j 0)) ∙ below_length 512;
+    line-size = length-map (below 512) (λ j. line_delay (get_or ls j 0)) ∙ below_length 512;
   }
 
 -- ---- for the sheet with traffic tr, far nodes ts and load steps ls, k choices on
 pub record Standing (h : SheetHeld) (tr fs ts ls ss xs os inbox qs out : List ℕ) (t : Tally) (k : ℕ) : Type 0 where
   pub kept : Kept h tr fs ts ls xs ss os inbox qs t
-  pub made : delivered (stateSaid h.links os inbox) ≡ k
+  pub made : delivered (state_said h.links os inbox) ≡ k
   -- the state with the messages that the nodes work out, where the slices have the one word
   pub real : State
-  pub real-size : length real ≡ h.links
-  pub alike : HeardAlike (sheetSaid h tr fs ts ls xs) (stateSaid h.links os inbox) real
-  pub rest : house (sheetSaid h tr fs ts ls xs) ≡ take k out ++ houseFrom (h.links - k) (sheetSaid h tr fs ts ls xs) real
+  pub real_size : length real ≡ h.links
+  pub alike : HeardAlike (sheet_said h tr fs ts ls xs) (state_said h.links os inbox) real
+  pub rest : house (sheet_said h tr fs ts ls xs) ≡ take k out ++ house_from (h.links - k) (sheet_said h tr fs ts ls xs) real
 
 module _ {h : SheetHeld} {tr fs ts ls xs ss os : List ℕ} (graph : Graph h tr fs ts ls xs ss os) where
   abbrev s : Sheet
-  s = sheetSaid h tr fs ts ls xs
+  s = sheet_said h tr fs ts ls xs
 
   many : length s.links ≡ h.links
   many = held-length h.links fs ts ls xs
 
-  standing-none : {gs ps inbox qs out : List ℕ} {t : Tally} → Flow h.head.nodes ss xs gs ps → length gs ≡ 65 → length ps ≡ 512
+  standing_none : {gs ps inbox qs out : List ℕ} {t : Tally} → Flow h.head.nodes ss xs gs ps → length gs ≡ 65 → length ps ≡ 512
       → Empty inbox → Begun h.head.nodes ss gs qs t → Standing h tr fs ts ls ss xs os inbox qs out t 0
-  standing-none {inbox = inbox} {out = out} flow a b empty begun =
+  standing_none {inbox = inbox} {out = out} flow a b empty begun =
       let net = graph-net graph flow a b in
       record {
         kept = begun_kept net empty begun;
-        made = ap delivered (state-start net empty) ∙ count-start (length s.links);
+        made = ap delivered (state_start net empty) ∙ count_start (length s.links);
         real = start s;
-        real-size = length-replicate (length s.links) silent ∙ many;
-        alike = λ k l. ap (λ (st : State). heard (get_or st k silent)) (state-start net empty);
-        rest = let z : length s.links ≡ h.links - 0 = omega (arith, many) in ap (λ (m : ℕ). houseFrom m s (start s)) z;
+        real_size = length-replicate (length s.links) silent ∙ many;
+        alike = λ k l. ap (λ (st : State). heard (get_or st k silent)) (state_start net empty);
+        rest = let z : length s.links ≡ h.links - 0 = omega (arith, many) in ap (λ (m : ℕ). house_from m s (start s)) z;
       }
 
   module _ {inbox qs out : List ℕ} {t : Tally} {k : ℕ} (inv : Standing h tr fs ts ls ss xs os inbox qs out t k) where
     abbrev st : State
-    st = stateSaid h.links os inbox
+    st = state_said h.links os inbox
 
     -- some link waits
-    standing-some : k < h.links → (j : ℕ) × (j < h.links) × (waitingAt j fs xs os inbox qs ≡ true)
-    standing-some low =
-        let w = some-waits graph.sound st (state-length h.links os inbox ∙ sym many) (omega (arith, inv.made, many)) in
+    standing_some : k < h.links → (j : ℕ) × (j < h.links) × (waiting_at j fs xs os inbox qs ≡ true)
+    standing_some low =
+        let w = some-waits graph.sound st (state_length h.links os inbox ∙ sym many) (omega (arith, inv.made, many)) in
         let inside : w.0 < h.links = omega (arith, w.2, many) in
         (w.0, inside, waits_kept inv.kept inside ∙ w.3)
 
-    standing-all : h.links ≤ k → k ≤ h.links → take k out ≡ house s
-    standing-all a b =
+    standing_all : h.links ≤ k → k ≤ h.links → take k out ≡ house s
+    standing_all a b =
         let z : h.links - k ≡ 0 = omega arith in
-        sym (inv.rest ∙ ap (λ (m : ℕ). take k out ++ houseFrom m s inv.real) z ∙ append-nil (take k out))
+        sym (inv.rest ∙ ap (λ (m : ℕ). take k out ++ house_from m s inv.real) z ∙ append-nil (take k out))
 
     module _ {j : ℕ} (lowest : LowestAt h.links fs xs os inbox qs j) where
-      waits-here : (p : ℕ) → p < h.links → waits s inv.real p ≡ waitingAt p fs xs os inbox qs
-      waits-here p a = sym (waits_kept inv.kept a ∙ waits-alike s st inv.real p (λ i b e. inv.alike i b) (inv.alike p (omega (arith, many))))
+      waits-here : (p : ℕ) → p < h.links → waits s inv.real p ≡ waiting_at p fs xs os inbox qs
+      waits-here p a = sym (waits_kept inv.kept a ∙ waits_alike s st inv.real p (λ i b e. inv.alike i b) (inv.alike p (omega (arith, many))))
 
-      choice : lowestWaiting s inv.real ≡ at j
+      choice : lowest_waiting s inv.real ≡ at j
       choice = (lowest-below (waits s inv.real) (length s.links) j).1 (record {
         inside = omega (arith, lowest.inside, many);
         passes = waits-here j lowest.inside ∙ lowest.passes;
         before = λ p l. waits-here p (omega (arith, lowest.inside)) ∙ lowest.before p l;
       })
 
-      standing-more : {inbox' qs' : List ℕ} {c : Change} → k < h.links → k < length out → Stored j 1 fs xs os inbox qs inbox' qs' c
+      standing_more : {inbox' qs' : List ℕ} {c : Change} → k < h.links → k < length out → Stored j 1 fs xs os inbox qs inbox' qs' c
           → Standing h tr fs ts ls ss xs os inbox' qs' (set out k j) (step_of t c) (k + 1)
-      standing-more low room put = record {
+      standing_more low room put = record {
         kept = put.keeps inv.kept lowest.inside;
         made = omega (
           arith,
           ap delivered (put.said inv.kept lowest.inside),
-          heard-set st j (toldOf 1) (omega (arith, state-length h.links os inbox, lowest.inside)),
+          heard-set st j (told_of 1) (omega (arith, state_length h.links os inbox, lowest.inside)),
           ap bit (undelivered s st j (sym (waits_kept inv.kept lowest.inside) ∙ lowest.passes)),
           inv.made,
         );
         real = deliver s inv.real j;
-        real-size = length-set inv.real j (message (sender s inv.real j)) ∙ inv.real-size;
+        real_size = length-set inv.real j (message (sender s inv.real j)) ∙ inv.real_size;
         alike = λ p a. ap (λ (su : State). heard (get_or su p silent)) (put.said inv.kept lowest.inside) ∙ same p a (ℕ_discrete p j);
         rest =
             let z : h.links - k ≡ suc (h.links - (k + 1)) = omega arith in
             let front : take (k + 1) (set out k j) ≡ take k out ++ (j ∷ []) = ap (λ (m : ℕ). take m (set out k j)) (add-one k) ∙ take-suc-set out k j room in
-            let left : List ℕ = houseFrom (h.links - (k + 1)) s (deliver s inv.real j) in
+            let left : List ℕ = house_from (h.links - (k + 1)) s (deliver s inv.real j) in
             inv.rest
-            ∙ ap (λ (m : ℕ). take k out ++ houseFrom m s inv.real) z
-            ∙ ap (λ (q : Place). take k out ++ chosen q (λ i. houseFrom (h.links - (k + 1)) s (deliver s inv.real i))) choice
+            ∙ ap (λ (m : ℕ). take k out ++ house_from m s inv.real) z
+            ∙ ap (λ (q : Place). take k out ++ chosen q (λ i. house_from (h.links - (k + 1)) s (deliver s inv.real i))) choice
             ∙ sym (append_assoc (take k out) (j ∷ []) left)
             ∙ ap (λ (m : List ℕ). m ++ left) (sym front);
       }
         where
-          same : (p : ℕ) → p < length s.links → Dec (p ≡ j) → heard (get_or (set st j (toldOf 1)) p silent) ≡ heard (get_or (deliver s inv.real j) p silent)
+          same : (p : ℕ) → p < length s.links → Dec (p ≡ j) → heard (get_or (set st j (told_of 1)) p silent) ≡ heard (get_or (deliver s inv.real j) p silent)
           same p a (yes e) = rw e (
-              ap heard (get_or-set_same st j (toldOf 1) silent (omega (arith, state-length h.links os inbox, lowest.inside)))
-              ∙ sym (ap heard (get_or-set_same inv.real j (message (sender s inv.real j)) silent (omega (arith, inv.real-size, lowest.inside)))))
+              ap heard (get_or-set_same st j (told_of 1) silent (omega (arith, state_length h.links os inbox, lowest.inside)))
+              ∙ sym (ap heard (get_or-set_same inv.real j (message (sender s inv.real j)) silent (omega (arith, inv.real_size, lowest.inside)))))
           same p a (no ne) =
-              ap heard (get_or-set_other st j p (toldOf 1) silent ne) ∙ inv.alike p a
+              ap heard (get_or-set_other st j p (told_of 1) silent ne) ∙ inv.alike p a
               ∙ sym (ap heard (get_or-set_other inv.real j p (message (sender s inv.real j)) silent ne))
 
 zeros : (n m : ℕ) → ◌≡◌ {A = ℕ} (get_or (replicate n 0) m 0) 0
@@ -157,79 +157,79 @@ zeros (suc n) (suc m) = zeros n m
 pub record Choosing (h : SheetHeld) (fs ss xs os inbox qs cs out₀ out : List ℕ) (live k : ℕ) : Type 0 where
   pub within : k ≤ h.links
   pub few : h.links ≤ 512
-  pub inbox-size : length inbox ≡ 512
+  pub inbox_size : length inbox ≡ 512
   pub quiet-size : length qs ≡ 64
-  pub out-size : length out ≡ length out₀
+  pub out_size : length out ≡ length out₀
   pub behind : drop k out ≡ drop k out₀
   pub passed : Passed h.links live fs xs os inbox qs cs
   pub tally : Tally
   pub each : {tr ts ls : List ℕ} → Graph h tr fs ts ls xs ss os → Standing h tr fs ts ls ss xs os inbox qs out tally k
 
 module _ {h : SheetHeld} {fs ss gs xs os : List ℕ} (held : GraphHeld h fs ss gs xs os) where
-  pub choosing-rows : {qs : List ℕ} → length qs ≡ 64 → RowsAt h.head.nodes ss gs qs
-  choosing-rows z = rows_at (graph-net held.graph held.flow held.flow-start-size held.flow-size) z
+  pub choosing_rows : {qs : List ℕ} → length qs ≡ 64 → RowsAt h.head.nodes ss gs qs
+  choosing_rows z = rows_at (graph-net held.graph held.flow held.flow-start_size held.flow-size) z
 
-  pub choosing-none : {inbox qs out : List ℕ} {t : Tally} → Empty inbox → Begun h.head.nodes ss gs qs t → Choosing h fs ss xs os inbox qs (replicate 64 0) out out 18446744073709551615 0
-  choosing-none {inbox} {t = t} empty begun = record {
+  pub choosing_none : {inbox qs out : List ℕ} {t : Tally} → Empty inbox → Begun h.head.nodes ss gs qs t → Choosing h fs ss xs os inbox qs (replicate 64 0) out out 18446744073709551615 0
+  choosing_none {inbox} {t = t} empty begun = record {
     within = omega arith;
     few = links-few held.graph;
-    inbox-size = empty.size;
+    inbox_size = empty.size;
     quiet-size = begun.size;
-    out-size = refl;
+    out_size = refl;
     behind = refl;
-    passed = record { size = length-replicate {A = ℕ} 64 0; behind = λ p a b. absurd (omega (arith, zeros 64 (get_or fs p 0))); shut = λ p a b. absurd (omega (arith, every-live (get_or fs p 0) (from_low p a))) };
+    passed = record { size = length-replicate {A = ℕ} 64 0; behind = λ p a b. absurd (omega (arith, zeros 64 (get_or fs p 0))); shut = λ p a b. absurd (omega (arith, every_live (get_or fs p 0) (from_low p a))) };
     tally = t;
-    each = λ graph. standing-none graph held.flow held.flow-start-size held.flow-size empty begun;
+    each = λ graph. standing_none graph held.flow held.flow-start_size held.flow-size empty begun;
   }
     where
       from_low : (p : ℕ) → p < h.links → get_or fs p 0 < 64
-      from_low p a = omega (arith, held.graph.sound.few, from_in (standing-none held.graph {inbox = inbox} {out = []} held.flow held.flow-start-size held.flow-size empty begun).kept a)
+      from_low p a = omega (arith, held.graph.sound.few, from_in (standing_none held.graph {inbox = inbox} {out = []} held.flow held.flow-start_size held.flow-size empty begun).kept a)
 
   module _ {inbox qs cs out₀ out : List ℕ} {live k : ℕ} (inv : Choosing h fs ss xs os inbox qs cs out₀ out live k) where
     abbrev now : Standing h held.tr fs held.ts held.ls ss xs os inbox qs out inv.tally k
     now = inv.each held.graph
 
-    pub choosing-search : k < h.links → Searchable h live fs ss xs os inbox qs cs
-    choosing-search a =
-        let w = standing-some held.graph now a in
+    pub choosing_search : k < h.links → Searchable h live fs ss xs os inbox qs cs
+    choosing_search a =
+        let w = standing_some held.graph now a in
         record {
           few = held.graph.sound.few;
           start-size = held.graph.start-size;
           links = λ j b. link_at now.kept b;
           rows = held.graph.rows;
-          sorted = rising-sorted h.links fs held.ts held.ls xs held.graph.sound.rising (λ j b. from_in now.kept b);
+          sorted = rising_sorted h.links fs held.ts held.ls xs held.graph.sound.rising (λ j b. from_in now.kept b);
           passed = inv.passed;
           some = w.0;
           some_in = w.1;
           some-waits = w.2;
         }
 
-    pub choosing-all : h.links ≤ k → HouseWritten h fs ss xs os out₀ out
-    choosing-all end = record {
+    pub choosing_all : h.links ≤ k → HouseWritten h fs ss xs os out₀ out
+    choosing_all end = record {
       said = λ graph.
           let z : k ≡ h.links = omega (arith, inv.within) in
-          sym (take-append-drop k out) ∙ ap₂ (λ (a b : List ℕ). a ++ b) (standing-all graph (inv.each graph) end inv.within) (inv.behind ∙ ap (λ (m : ℕ). drop m out₀) z);
+          sym (take-append-drop k out) ∙ ap₂ (λ (a b : List ℕ). a ++ b) (standing_all graph (inv.each graph) end inv.within) (inv.behind ∙ ap (λ (m : ℕ). drop m out₀) z);
     }
 
     module _ {r : Spot} {cs' : List ℕ} (found : Found h r fs xs os inbox qs cs') where
-      pub choosing-link : LinkAt r.link fs xs os inbox qs
-      choosing-link = link_at now.kept found.lowest.inside
+      pub choosing_link : LinkAt r.link fs xs os inbox qs
+      choosing_link = link_at now.kept found.lowest.inside
 
-      pub choosing-counted : Counted r.link fs xs os inbox qs
-      choosing-counted = counted-kept now.kept found.lowest.inside
+      pub choosing_counted : Counted r.link fs xs os inbox qs
+      choosing_counted = counted-kept now.kept found.lowest.inside
 
-      pub choosing-more : {inbox' qs' cs'' : List ℕ} {more : ℕ} → k < h.links → h.links ≤ length out₀ → ChosenStored r.link r.live fs xs os inbox qs cs' inbox' qs' cs'' more
+      pub choosing_more : {inbox' qs' cs'' : List ℕ} {more : ℕ} → k < h.links → h.links ≤ length out₀ → ChosenStored r.link r.live fs xs os inbox qs cs' inbox' qs' cs'' more
           → Choosing h fs ss xs os inbox' qs' cs'' out₀ (set out k r.link) more (k + 1)
-      choosing-more a b put =
+      choosing_more a b put =
           let kept = put.stored.keeps now.kept found.lowest.inside in
           record {
             within = omega arith;
             few = inv.few;
-            inbox-size = kept.inbox-size;
+            inbox_size = kept.inbox_size;
             quiet-size = kept.quiet-size;
-            out-size = length-set out k r.link ∙ inv.out-size;
+            out_size = length-set out k r.link ∙ inv.out_size;
             behind = drop-set-lt (k + 1) out k r.link (omega arith) ∙ sym (drop-drop 1 k out) ∙ ap (drop 1) inv.behind ∙ drop-drop 1 k out₀;
             passed = put.passed now.kept found.lowest.inside found.passed;
             tally = step_of inv.tally put.change;
-            each = λ graph. standing-more graph (inv.each graph) found.lowest a (omega (arith, inv.out-size)) put.stored;
+            each = λ graph. standing_more graph (inv.each graph) found.lowest a (omega (arith, inv.out_size)) put.stored;
           }

@@ -12,10 +12,10 @@ use borrow.Author.Tests.{eqb-true}
 use Rattle.rules.specs.Lists.{exists, below, at, first}
 use Rattle.rules.specs.Judge.{paired}
 use Rattle.rules.specs.Sheet.{opposite}
-use Rattle.rules.proofs.Tests.{and-gives}
-use Rattle.rules.proofs.Lists.{exists-holds, exists-map, below_in}
-use Rattle.rules.proofs.First.{first-map, first-eq, first_some, first-none, none_below, lowest-below, Searched, searched-none, searched-here, searched-more}
-use Rattle.sheet.specs.Held.{held_at, held, foundSaid}
+use Rattle.rules.proofs.Tests.{and_gives}
+use Rattle.rules.proofs.Lists.{exists_holds, exists-map, below_in}
+use Rattle.rules.proofs.First.{first-map, first_eq, first_some, first-none, none_below, lowest-below, Searched, searched_none, searched_here, searched_more}
+use Rattle.sheet.specs.Held.{held_at, held, found_said}
 use Rattle.sheet.specs.declared.Found.{Found}
 use Rattle.links.specs.Opposites.{runs, Paired}
 
@@ -27,10 +27,10 @@ module _ (n : ℕ) (fs ts : List ℕ) where
   abbrev lonely : ℕ → Bool
   lonely j = not (exists (turns j) (below n))
 
-  lonely-is : (ls xs : List ℕ) → first (λ l. not (paired (held n fs ts ls xs) l)) (held n fs ts ls xs) ≡ first lonely (below n)
-  lonely-is ls xs =
+  lonely_is : (ls xs : List ℕ) → first (λ l. not (paired (held n fs ts ls xs) l)) (held n fs ts ls xs) ≡ first lonely (below n)
+  lonely_is ls xs =
       first-map (λ l. not (paired (held n fs ts ls xs) l)) (held_at fs ts ls xs) (below n)
-      ∙ first-eq (λ j. not (paired (held n fs ts ls xs) (held_at fs ts ls xs j))) lonely (below n)
+      ∙ first_eq (λ j. not (paired (held n fs ts ls xs) (held_at fs ts ls xs j))) lonely (below n)
       (λ j. ap not (exists-map (opposite (held_at fs ts ls xs j)) (held_at fs ts ls xs) (below n)))
 
 -- ---- up to link j each opposite is written
@@ -41,12 +41,12 @@ pub record Met (n : ℕ) (fs ts os : List ℕ) (j : ℕ) : Type 0 where
   pub turned : (i : ℕ) → i < j → turns n fs ts i (get_or os i 0) ≡ true
 
 module _ {n : ℕ} {fs ts os : List ℕ} where
-  pub met-none : length os ≡ 512 → Met n fs ts os 0
-  met-none h = record { within = omega arith; long = h; low = λ i l. absurd (omega arith); turned = λ i l. absurd (omega arith) }
+  pub met_none : length os ≡ 512 → Met n fs ts os 0
+  met_none h = record { within = omega arith; long = h; low = λ i l. absurd (omega arith); turned = λ i l. absurd (omega arith) }
 
   module _ {j : ℕ} (m : Met n fs ts os j) where
-    pub met-more : {k : ℕ} → n ≤ 512 → j < n → k < n → turns n fs ts j k ≡ true → Met n fs ts (set os j k) (j + 1)
-    met-more {k} few l b e = record {
+    pub met_more : {k : ℕ} → n ≤ 512 → j < n → k < n → turns n fs ts j k ≡ true → Met n fs ts (set os j k) (j + 1)
+    met_more {k} few l b e = record {
       within = omega arith;
       long = length-set os j k ∙ m.long;
       low = λ i h. at_place (λ (i k : ℕ). k < n) m.low b i h (dec_lt i j);
@@ -62,18 +62,18 @@ module _ {n : ℕ} {fs ts os : List ℕ} where
 
     pub met_all : n ≤ j → Paired Found.Nowhere n fs ts os
     met_all h = record {
-      said = λ ls xs. sym (lonely-is n fs ts ls xs ∙ (none_below (lonely n fs ts) n).1 (λ i l. ap not (some i l)));
+      said = λ ls xs. sym (lonely_is n fs ts ls xs ∙ (none_below (lonely n fs ts) n).1 (λ i l. ap not (some i l)));
       told = λ q. record { low = λ i l. m.low i (omega arith); from = λ i l. (ends i l).0; to = λ i l. (ends i l).1 };
       size = m.long;
     }
       where
         some : (i : ℕ) → i < n → exists (turns n fs ts i) (below n) ≡ true
-        some i l = exists-holds (turns n fs ts i) (below_in n (get_or os i 0) (m.low i (omega arith))) (m.turned i (omega arith))
+        some i l = exists_holds (turns n fs ts i) (below_in n (get_or os i 0) (m.low i (omega arith))) (m.turned i (omega arith))
 
         ends : (i : ℕ) → i < n → (get_or fs (get_or os i 0) 0 ≡ get_or ts i 0) × (get_or ts (get_or os i 0) 0 ≡ get_or fs i 0)
         ends i l =
             let k = get_or os i 0 in
-            let g = and-gives (eqb (get_or fs k 0) (get_or ts i 0)) (eqb (get_or ts k 0) (get_or fs i 0)) (m.turned i (omega arith)) in
+            let g = and_gives (eqb (get_or fs k 0) (get_or ts i 0)) (eqb (get_or ts k 0) (get_or fs i 0)) (m.turned i (omega arith)) in
             (eqb-true (get_or fs k 0) (get_or ts i 0) g.0, eqb-true (get_or ts k 0) (get_or fs i 0) g.1)
 
 -- ---- a link is looked up
@@ -82,29 +82,29 @@ pub record Pairing (n : ℕ) (fs ts os : List ℕ) (j : ℕ) : Type 0 where
   pub met : Met n fs ts os j
 
 module _ {n : ℕ} {fs ts os : List ℕ} where
-  pub pairing-none : length os ≡ 512 → Pairing n fs ts os 0
-  pairing-none h = record { search = searched-none; met = met-none h }
+  pub pairing_none : length os ≡ 512 → Pairing n fs ts os 0
+  pairing_none h = record { search = searched_none; met = met_none h }
 
-  module _ {j : ℕ} (h : Pairing n fs ts os j) {r : Found} (q : foundSaid r ≡ first (turns n fs ts j) (below n)) (l : j < n) where
-    pub pairing-alone : r ≡ Found.Nowhere → Paired (Found.At j) n fs ts os
-    pairing-alone e = record {
-      said = λ ls xs. searched-here h.search l (ap not (first-none (turns n fs ts j) (below n) (sym q ∙ ap foundSaid e))) ∙ sym (lonely-is n fs ts ls xs);
+  module _ {j : ℕ} (h : Pairing n fs ts os j) {r : Found} (q : found_said r ≡ first (turns n fs ts j) (below n)) (l : j < n) where
+    pub pairing_alone : r ≡ Found.Nowhere → Paired (Found.At j) n fs ts os
+    pairing_alone e = record {
+      said = λ ls xs. searched_here h.search l (ap not (first-none (turns n fs ts j) (below n) (sym q ∙ ap found_said e))) ∙ sym (lonely_is n fs ts ls xs);
       told = λ z. let w : ◌≡◌ {A = ℕ} 0 1 = cc in absurd (omega arith);
       size = h.met.long;
     }
 
     module _ {k : ℕ} (e : r ≡ Found.At k) where
       some : first (turns n fs ts j) (below n) ≡ at k
-      some = sym q ∙ ap foundSaid e
+      some = sym q ∙ ap found_said e
 
-      pub pairing-low : k < n
-      pairing-low = ((lowest-below (turns n fs ts j) n k).0 some).inside
+      pub pairing_low : k < n
+      pairing_low = ((lowest-below (turns n fs ts j) n k).0 some).inside
 
-      pub pairing-more : n ≤ 512 → Pairing n fs ts (set os j k) (j + 1)
-      pairing-more few = record {
-        search = searched-more h.search l (ap not (first_some (turns n fs ts j) (below n) some));
-        met = met-more h.met few l pairing-low ((lowest-below (turns n fs ts j) n k).0 some).passes;
+      pub pairing_more : n ≤ 512 → Pairing n fs ts (set os j k) (j + 1)
+      pairing_more few = record {
+        search = searched_more h.search l (ap not (first_some (turns n fs ts j) (below n) some));
+        met = met_more h.met few l pairing_low ((lowest-below (turns n fs ts j) n k).0 some).passes;
       }
 
-  pub pairing-all : {j : ℕ} → Pairing n fs ts os j → n ≤ j → Paired Found.Nowhere n fs ts os
-  pairing-all h l = met_all h.met l
+  pub pairing_all : {j : ℕ} → Pairing n fs ts os j → n ≤ j → Paired Found.Nowhere n fs ts os
+  pairing_all h l = met_all h.met l

@@ -5,11 +5,11 @@ use Rattle.links.specs.declared.Link.{Link}
 use Rattle.links.specs.declared.RowRange.{RowRange}
 
 -- the sheet's link that a record says
-abbrev pub linkSaid : Link → SheetLink
-linkSaid l = record { from = l.from; to = l.to; load = l.load; fraction = l.fraction.0 }
+abbrev pub link_said : Link → SheetLink
+link_said l = record { from = l.from; to = l.to; load = l.load; fraction = l.fraction.0 }
 
-abbrev pub recordOf : ℕ → ℕ → ℕ → ℕ → Link
-recordOf f t d x = record { kind = 3; from = f; to = t; load = d; fraction = record { 0 = x } }
+abbrev pub record_of : ℕ → ℕ → ℕ → ℕ → Link
+record_of f t d x = record { kind = 3; from = f; to = t; load = d; fraction = record { 0 = x } }
 
 -- what stands where there is no link
 abbrev pub no_link : Link
@@ -27,19 +27,19 @@ abbrev pub fractions : List Link → List ℕ
 fractions ls = map (λ l. l.fraction.0) ls
 
 -- the first place of a link from node i or a higher one; the list's length where there is none
-unfoldable pub rowStart : ℕ → List Link → ℕ
-rowStart i [] = 0
-rowStart i (l ∷ ls) = cond (ltb l.from i) (suc (rowStart i ls)) 0
+unfoldable pub row_start : ℕ → List Link → ℕ
+row_start i [] = 0
+row_start i (l ∷ ls) = cond (ltb l.from i) (suc (row_start i ls)) 0
 
 -- node i's row, where links rise by from: from its first link up to the first of a higher node
-abbrev pub rowRange : ℕ → List Link → RowRange
-rowRange i ls = record { start = rowStart i ls; end = rowStart (i + 1) ls }
+abbrev pub row_range : ℕ → List Link → RowRange
+row_range i ls = record { start = row_start i ls; end = row_start (i + 1) ls }
 
 -- the link at k is the opposite of the link at j
-abbrev pub turnsAt : List Link → ℕ → ℕ → Bool
-turnsAt ls j k = opposite (linkSaid (link_at ls j)) (linkSaid (link_at ls k))
+abbrev pub turns_at : List Link → ℕ → ℕ → Bool
+turns_at ls j k = opposite (link_said (link_at ls j)) (link_said (link_at ls k))
 
 -- the list of the links that stand in four slices
 pub record Listed (count : ℕ) (fs ts ds xs : List ℕ) (r : List Link) : Type 0 where
   pub size : length r ≡ 512
-  pub each : (j : ℕ) → j < count → link_at r j ≡ recordOf (get_or fs j 0) (get_or ts j 0) (get_or ds j 0) (get_or xs j 0)
+  pub each : (j : ℕ) → j < count → link_at r j ≡ record_of (get_or fs j 0) (get_or ts j 0) (get_or ds j 0) (get_or xs j 0)

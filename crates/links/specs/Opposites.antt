@@ -2,7 +2,7 @@
 use Rattle.std.specs.Prelude.{ℕ, ◌≤◌, ◌<◌, ◌≡◌, Bool, not, ◌&&◌, List, length, get_or, eqb}
 use Rattle.rules.specs.Lists.{nowhere, first}
 use Rattle.rules.specs.Judge.{paired}
-use Rattle.sheet.specs.Held.{held, foundSaid}
+use Rattle.sheet.specs.Held.{held, found_said}
 use Rattle.sheet.specs.declared.Found.{Found}
 
 -- the first of these links rise by from
@@ -21,6 +21,6 @@ runs fs ts a z i = eqb (get_or fs i 0) a && eqb (get_or ts i 0) z
 
 -- 6's place, in which the other lists play no part; where there is none, each link's opposite is told
 pub record Paired (r : Found) (count : ℕ) (fs ts os : List ℕ) : Type 0 where
-  pub said : (ls xs : List ℕ) → foundSaid r ≡ first (λ l. not (paired (held count fs ts ls xs) l)) (held count fs ts ls xs)
-  pub told : foundSaid r ≡ nowhere → Opposites count fs ts os
+  pub said : (ls xs : List ℕ) → found_said r ≡ first (λ l. not (paired (held count fs ts ls xs) l)) (held count fs ts ls xs)
+  pub told : found_said r ≡ nowhere → Opposites count fs ts os
   pub size : length os ≡ 512

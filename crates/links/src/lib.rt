@@ -4,8 +4,8 @@
 ghost use Rattle.std.specs.Prelude.{◌≡◌, true, ◌&&◌, ℕ, ◌≤◌, ◌<◌, length, get_or, ltb, eqb};
 ghost use Rattle.rules.specs.Lists.{below, first};
 ghost use Rattle.rules.specs.Sheet.{opposite};
-ghost use Rattle.sheet.specs.Held.{foundSaid};
-ghost use Rattle.links.specs.List.{linkSaid, recordOf, no_link, link_at, froms, rowStart, rowRange, turnsAt, Listed};
+ghost use Rattle.sheet.specs.Held.{found_said};
+ghost use Rattle.links.specs.List.{link_said, record_of, no_link, link_at, froms, row_start, row_range, turns_at, Listed};
 ghost use Rattle.links.specs.Opposites.{RisesTo, Paired};
 
 use numbers::Fraction;
@@ -42,7 +42,7 @@ pub fn fraction_of(l: Link) -> Fraction
 }
 
 fn record_of(from: u8, to: u8, load: u8, fraction: Fraction) -> Link
-    ensures { result ≡ recordOf from to load fraction.0 }
+    ensures { result ≡ record_of from to load fraction.0 }
 {
     Link {
         kind: 3,
@@ -81,7 +81,7 @@ fn is_between(from: u8, to: u8, a: u8, z: u8) -> bool
 
 // Is m the opposite of l?
 fn is_opposite(l: Link, m: Link) -> bool
-    ensures { result ≡ opposite (linkSaid l) (linkSaid m) }
+    ensures { result ≡ opposite (link_said l) (link_said m) }
 {
     is_between(m.from, m.to, l.to, l.from)
 }
@@ -97,7 +97,7 @@ pub fn link_at(links: &[Link], j: usize) -> Link
 
 // The first place of a link from node i or a higher one; the list's length where there is none.
 fn row_start(links: &[Link], i: u16) -> usize
-    ensures { result ≡ rowStart i links.now }
+    ensures { result ≡ row_start i links.now }
 {
     let mut k: usize = 0;
     while k < links.len() {
@@ -118,7 +118,7 @@ pub struct RowRange {
 
 // Node i's row.
 pub fn row_of(links: &[Link], i: u8) -> RowRange
-    ensures { result ≡ rowRange i links.now }
+    ensures { result ≡ row_range i links.now }
 {
     let n = i as u16;
     let start = row_start(links, n);
@@ -129,7 +129,7 @@ pub fn row_of(links: &[Link], i: u8) -> RowRange
 // The place of link j's opposite, where it is present: it is looked for in the row of the far node.
 pub fn opposite_of(links: &[Link], j: usize) -> Found
     requires { (j < length links.now) × RisesTo (length links.now) (froms links.now) }
-    ensures { foundSaid result ≡ first (turnsAt links.now j) (below (length links.now)) }
+    ensures { found_said result ≡ first (turns_at links.now j) (below (length links.now)) }
 {
     let l = link_at(links, j);
     let row = row_of(links, to_of(l));

@@ -10,27 +10,27 @@ use borrow.Author.Tests.{leb-false}
 use Rattle.rules.specs.Lists.{below}
 use Rattle.rules.specs.Sheet.{Sheet}
 use Rattle.rules.specs.Messages.{finished, deliver, run}
-use Rattle.rules.specs.Check.{sheetWith}
-use Rattle.rules.proofs.Lists.{map-eq, in-below}
+use Rattle.rules.specs.Check.{sheet_with}
+use Rattle.rules.proofs.Lists.{map_eq, in_below}
 use Rattle.rules.proofs.Sound.{Sound}
 use Rattle.sheet.specs.declared.SheetHeld.{SheetHeld}
-use Rattle.sheet.specs.Held.{link_of, held_at, held, headSaid, sheetSaid}
+use Rattle.sheet.specs.Held.{link_of, held_at, held, head_said, sheet_said}
 use Rattle.links.specs.Opposites.{Opposites}
 use Rattle.network.specs.Rows.{Rows}
-use Rattle.node.specs.Net.{stateSaid, Graph, Net}
+use Rattle.node.specs.Net.{state_said, Graph, Net}
 use Rattle.messages.specs.declared.Tally.{Tally}
 use Rattle.messages.specs.declared.Ran.{Ran}
 use Rattle.messages.specs.declared.Ran.TheVariants.{Stopped, Left}
-use Rattle.messages.specs.State.{Kept, LinkAt, waits_by, waitingAt, refusalAt, AlikeAt, Alike}
+use Rattle.messages.specs.State.{Kept, LinkAt, waits_by, waiting_at, refusal_at, AlikeAt, Alike}
 use Rattle.messages.specs.Round.{Deliverable, Delivered, NetHeld, RanKept, ListRun}
 
 module _ {count : ℕ} {fs fs' : List ℕ} (alike : Alike count fs fs') where
   pub alike_turned : length fs ≡ 512 → Alike count fs' fs
   alike_turned size = record { same = λ j low. sym (alike.same j low); size = size }
 
-  pub held-alike : (ts ls xs : List ℕ) → held count fs ts ls xs ≡ held count fs' ts ls xs
-  held-alike ts ls xs = map-eq (held_at fs ts ls xs) (held_at fs' ts ls xs) (below count)
-      (λ j m. ap (λ (f : ℕ). link_of f (get_or ts j 0) (get_or ls j 0) (get_or xs j 0)) (alike.same j (in-below count m)))
+  pub held_alike : (ts ls xs : List ℕ) → held count fs ts ls xs ≡ held count fs' ts ls xs
+  held_alike ts ls xs = map_eq (held_at fs ts ls xs) (held_at fs' ts ls xs) (below count)
+      (λ j m. ap (λ (f : ℕ). link_of f (get_or ts j 0) (get_or ls j 0) (get_or xs j 0)) (alike.same j (in_below count m)))
 
   rows_alike : {n : ℕ} {ss : List ℕ} → Rows n count fs ss → Rows n count fs' ss
   rows_alike r = record {
@@ -40,23 +40,23 @@ module _ {count : ℕ} {fs fs' : List ℕ} (alike : Alike count fs fs') where
     found = λ k low. rw (sym (alike.same k low)) (r.found k low);
   }
 
-  opposites-alike : {ts os : List ℕ} → Opposites count fs ts os → Opposites count fs' ts os
-  opposites-alike {os = os} o = record {
+  opposites_alike : {ts os : List ℕ} → Opposites count fs ts os → Opposites count fs' ts os
+  opposites_alike {os = os} o = record {
     low = o.low;
     from = λ j low. sym (alike.same (get_or os j 0) (o.low j low)) ∙ o.from j low;
     to = λ j low. o.to j low ∙ alike.same j low;
   }
 
-pub said-alike : (h : SheetHeld) (tr : List ℕ) {fs fs' : List ℕ} (ts ls xs : List ℕ) → Alike h.links fs fs' → sheetSaid h tr fs ts ls xs ≡ sheetSaid h tr fs' ts ls xs
-said-alike h tr ts ls xs alike = ap (sheetWith (headSaid h.head) (take h.head.nodes tr)) (held-alike alike ts ls xs)
+pub said_alike : (h : SheetHeld) (tr : List ℕ) {fs fs' : List ℕ} (ts ls xs : List ℕ) → Alike h.links fs fs' → sheet_said h tr fs ts ls xs ≡ sheet_said h tr fs' ts ls xs
+said_alike h tr ts ls xs alike = ap (sheet_with (head_said h.head) (take h.head.nodes tr)) (held_alike alike ts ls xs)
 
 -- ---- what the slices keep
 module _ {h : SheetHeld} {tr fs fs' ts ls xs ss os : List ℕ} where
-  pub graph-alike : Graph h tr fs ts ls xs ss os → Alike h.links fs fs' → Graph h tr fs' ts ls xs ss os
-  graph-alike g alike = record {
-    sound = subst Sound (said-alike h tr ts ls xs alike) g.sound;
+  pub graph_alike : Graph h tr fs ts ls xs ss os → Alike h.links fs fs' → Graph h tr fs' ts ls xs ss os
+  graph_alike g alike = record {
+    sound = subst Sound (said_alike h tr ts ls xs alike) g.sound;
     rows = rows_alike alike g.rows;
-    opposites = opposites-alike alike g.opposites;
+    opposites = opposites_alike alike g.opposites;
     traffic-size = g.traffic-size;
     from-size = alike.size;
     to-size = g.to-size;
@@ -65,64 +65,64 @@ module _ {h : SheetHeld} {tr fs fs' ts ls xs ss os : List ℕ} where
     opposite-size = g.opposite-size;
   }
 
-  pub net-alike : {gs ps line : List ℕ} → Net h tr fs ts ls xs ss gs ps os line → Alike h.links fs fs' → Net h tr fs' ts ls xs ss gs ps os line
-  net-alike net alike = record {
-    graph = graph-alike net.graph alike;
+  pub net_alike : {gs ps line : List ℕ} → Net h tr fs ts ls xs ss gs ps os line → Alike h.links fs fs' → Net h tr fs' ts ls xs ss gs ps os line
+  net_alike net alike = record {
+    graph = graph_alike net.graph alike;
     flow = net.flow;
     line-right = net.line-right;
     line_small = net.line_small;
-    flow-start-size = net.flow-start-size;
+    flow-start_size = net.flow-start_size;
     flow-size = net.flow-size;
     line-size = net.line-size;
   }
 
-  pub kept-alike : {inbox qs : List ℕ} {t : Tally} → Kept h tr fs ts ls xs ss os inbox qs t → Alike h.links fs fs' → Kept h tr fs' ts ls xs ss os inbox qs t
-  kept-alike {inbox} kept alike = record {
-    graph = graph-alike kept.graph alike;
-    inbox-size = kept.inbox-size;
+  pub kept_alike : {inbox qs : List ℕ} {t : Tally} → Kept h tr fs ts ls xs ss os inbox qs t → Alike h.links fs fs' → Kept h tr fs' ts ls xs ss os inbox qs t
+  kept_alike {inbox} kept alike = record {
+    graph = graph_alike kept.graph alike;
+    inbox_size = kept.inbox_size;
     beyond = kept.beyond;
     quiet-size = kept.quiet-size;
     quiet = kept.quiet;
     deliveries = kept.deliveries;
-    finished-right = kept.finished-right ∙ ap (λ (s : Sheet). finished s (stateSaid h.links os inbox)) (said-alike h tr ts ls xs alike);
+    finished-right = kept.finished-right ∙ ap (λ (s : Sheet). finished s (state_said h.links os inbox)) (said_alike h tr ts ls xs alike);
   }
 
 -- ---- what was made over the second list holds of the first
 module _ {h : SheetHeld} {tr fs fs' ss gs ps line xs os : List ℕ} where
-  pub delivered-alike : {j : ℕ} {inbox qs inbox' qs' : List ℕ} {t t' : Tally} → Delivered h j tr fs' ss gs ps line xs os inbox qs inbox' qs' t t'
+  pub delivered_alike : {j : ℕ} {inbox qs inbox' qs' : List ℕ} {t t' : Tally} → Delivered h j tr fs' ss gs ps line xs os inbox qs inbox' qs' t t'
       → Alike h.links fs fs' → Delivered h j tr fs ss gs ps line xs os inbox qs inbox' qs' t t'
-  delivered-alike {j} {inbox} done alike = record {
+  delivered_alike {j} {inbox} done alike = record {
     said = λ {ts} {ls} net kept inside.
-        done.said (net-alike net alike) (kept-alike kept alike) inside
-        ∙ ap (λ (s : Sheet). deliver s (stateSaid h.links os inbox) j) (sym (said-alike h tr ts ls xs alike));
-    keeps = λ net kept inside. kept-alike (done.keeps (net-alike net alike) (kept-alike kept alike) inside) (alike_turned alike net.graph.from-size);
+        done.said (net_alike net alike) (kept_alike kept alike) inside
+        ∙ ap (λ (s : Sheet). deliver s (state_said h.links os inbox) j) (sym (said_alike h tr ts ls xs alike));
+    keeps = λ net kept inside. kept_alike (done.keeps (net_alike net alike) (kept_alike kept alike) inside) (alike_turned alike net.graph.from-size);
   }
 
-  pub ran-alike : {r : Ran} {js inbox qs : List ℕ} → ListRun r h js tr fs' ss gs ps line xs os inbox qs
+  pub ran_alike : {r : Ran} {js inbox qs : List ℕ} → ListRun r h js tr fs' ss gs ps line xs os inbox qs
       → Alike h.links fs fs' → ListRun r h js tr fs ss gs ps line xs os inbox qs
-  ran-alike {r} {js} {inbox} {qs} ran alike = record {
-    said = λ {ts} {ls} net. ran.said (net-alike net alike) ∙ ap (λ (s : Sheet). run s js) (sym (said-alike h tr ts ls xs alike));
-    keeps = λ {ts} {ls} net. back ts ls (alike_turned alike net.graph.from-size) r (ran.keeps (net-alike net alike));
+  ran_alike {r} {js} {inbox} {qs} ran alike = record {
+    said = λ {ts} {ls} net. ran.said (net_alike net alike) ∙ ap (λ (s : Sheet). run s js) (sym (said_alike h tr ts ls xs alike));
+    keeps = λ {ts} {ls} net. back ts ls (alike_turned alike net.graph.from-size) r (ran.keeps (net_alike net alike));
   }
     where
       back : (ts ls : List ℕ) → Alike h.links fs' fs → (r : Ran) → RanKept r h tr fs' ts ls xs ss os inbox qs → RanKept r h tr fs ts ls xs ss os inbox qs
       back ts ls turned (Stopped m k) kept = tt
-      back ts ls turned (Left t) kept = kept-alike kept turned
+      back ts ls turned (Left t) kept = kept_alike kept turned
 
 -- ---- what is asked of the first list is given of the second
-pub held-net-alike : {h : SheetHeld} {tr fs fs' ss gs ps line xs os : List ℕ} → NetHeld h tr fs ss gs ps line xs os → Alike h.links fs fs' → NetHeld h tr fs' ss gs ps line xs os
-held-net-alike held alike = record { ts = held.ts; ls = held.ls; net = net-alike held.net alike }
+pub held-net_alike : {h : SheetHeld} {tr fs fs' ss gs ps line xs os : List ℕ} → NetHeld h tr fs ss gs ps line xs os → Alike h.links fs fs' → NetHeld h tr fs' ss gs ps line xs os
+held-net_alike held alike = record { ts = held.ts; ls = held.ls; net = net_alike held.net alike }
 
-pub deliverable-alike : {step j : ℕ} {tr fs fs' ss gs ps line xs os inbox qs : List ℕ} {t : Tally} → Deliverable step j tr fs ss gs ps line xs os inbox qs t
+pub deliverable_alike : {step j : ℕ} {tr fs fs' ss gs ps line xs os inbox qs : List ℕ} {t : Tally} → Deliverable step j tr fs ss gs ps line xs os inbox qs t
     → AlikeAt j fs fs' → AlikeAt (get_or os j 0) fs fs' → length fs' ≡ 512 → Deliverable step j tr fs' ss gs ps line xs os inbox qs t
-deliverable-alike d near far size = record {
+deliverable_alike d near far size = record {
   step-top = d.step-top;
   traffic = d.traffic;
   link = record {
     from-size = size;
     fraction-size = d.link.fraction-size;
     opposite-size = d.link.opposite-size;
-    inbox-size = d.link.inbox-size;
+    inbox_size = d.link.inbox_size;
     quiet-size = d.link.quiet-size;
     low = d.link.low;
     place = d.link.place;
@@ -135,12 +135,12 @@ deliverable-alike d near far size = record {
 }
 
 -- ---- a link and a refusal, by the fractions
-pub link-alike : {j : ℕ} {fs xs xs' os inbox qs : List ℕ} → LinkAt j fs xs os inbox qs → length xs' ≡ 512 → LinkAt j fs xs' os inbox qs
-link-alike l size = record {
+pub link_alike : {j : ℕ} {fs xs xs' os inbox qs : List ℕ} → LinkAt j fs xs os inbox qs → length xs' ≡ 512 → LinkAt j fs xs' os inbox qs
+link_alike l size = record {
   from-size = l.from-size;
   fraction-size = size;
   opposite-size = l.opposite-size;
-  inbox-size = l.inbox-size;
+  inbox_size = l.inbox_size;
   quiet-size = l.quiet-size;
   low = l.low;
   place = l.place;
@@ -148,10 +148,10 @@ link-alike l size = record {
   far = l.far;
 }
 
-pub refusal-alike : (count j : ℕ) (fs xs xs' os inbox qs : List ℕ) → ((k : ℕ) → k < count → AlikeAt k xs xs')
-    → refusalAt count j fs xs os inbox qs ≡ refusalAt count j fs xs' os inbox qs
-refusal-alike count j fs xs xs' os inbox qs same = go (leb count j) refl
+pub refusal_alike : (count j : ℕ) (fs xs xs' os inbox qs : List ℕ) → ((k : ℕ) → k < count → AlikeAt k xs xs')
+    → refusal_at count j fs xs os inbox qs ≡ refusal_at count j fs xs' os inbox qs
+refusal_alike count j fs xs xs' os inbox qs same = go (leb count j) refl
   where
-    go : (b : Bool) → leb count j ≡ b → ◌≡◌ {A = ℕ} (cond b 12 (cond (waitingAt j fs xs os inbox qs) 0 10)) (cond b 12 (cond (waitingAt j fs xs' os inbox qs) 0 10))
+    go : (b : Bool) → leb count j ≡ b → ◌≡◌ {A = ℕ} (cond b 12 (cond (waiting_at j fs xs os inbox qs) 0 10)) (cond b 12 (cond (waiting_at j fs xs' os inbox qs) 0 10))
     go true e = refl
     go false e = ap (λ (x : ℕ). cond (waits_by (get_or qs (get_or fs j 0) 0) x (get_or inbox (get_or os j 0) 0)) 0 10) (same j (leb-false count j e))

@@ -10,56 +10,56 @@ use lib.ListN.{length, get_or, set, length-set, length-replicate, get_or-replica
 use lib.Seq.{ext_get_or, get_or-set_same, get_or-set_other}
 use lib.Dec.{ltb, eqb}
 use borrow.Author.Tests.{eq-eqb}
-use Rattle.rules.specs.Lists.{keep, bit, howMany, below}
+use Rattle.rules.specs.Lists.{keep, bit, how_many, below}
 use Rattle.rules.specs.Desk.{silent}
 use Rattle.rules.specs.Messages.{start, delivered}
-use Rattle.rules.proofs.Lists.{total-eq, total-last, in-below}
-use Rattle.rules.proofs.Live.{count-start}
-use Rattle.desk.specs.Ways.{toldOf}
+use Rattle.rules.proofs.Lists.{total_eq, total_last, in_below}
+use Rattle.rules.proofs.Live.{count_start}
+use Rattle.desk.specs.Ways.{told_of}
 use Rattle.sheet.specs.declared.SheetHeld.{SheetHeld}
-use Rattle.sheet.specs.Held.{sheetSaid}
+use Rattle.sheet.specs.Held.{sheet_said}
 use Rattle.network.specs.Rows.{part}
-use Rattle.network.proofs.Rows.{part_length, part-getD}
+use Rattle.network.proofs.Rows.{part_length, part-get_or}
 use Rattle.network.proofs.Rows.{held-length}
-use Rattle.node.specs.Net.{stateSaid, Net, Empty}
-use Rattle.node.proofs.Held.{state-length, state-at, links-few}
+use Rattle.node.specs.Net.{state_said, Net, Empty}
+use Rattle.node.proofs.Held.{state_length, state_at, links-few}
 use Rattle.messages.specs.declared.Tally.{Tally}
-use Rattle.messages.specs.State.{isSilent, isSilentFlow, rowNumbers, quietOf, statusBy, Kept, rowQuiet, RowsAt, Begun}
-use Rattle.messages.proofs.Counts.{count-all, count_kept}
-use Rattle.messages.proofs.Status.{and-true, finished-by}
+use Rattle.messages.specs.State.{is_silent, is_silent_flow, row_numbers, quiet_of, status_by, Kept, row_quiet, RowsAt, Begun}
+use Rattle.messages.proofs.Counts.{count_all, count_kept}
+use Rattle.messages.proofs.Status.{and_true, finished_by}
 
 -- ---- the loop, i nodes on
 pub record Beginning (n : ℕ) (ss gs qs : List ℕ) (finished i : ℕ) : Type 0 where
   pub within : i ≤ n
   pub size : length qs ≡ 64
-  pub counts : (k : ℕ) → k < i → get_or qs k 0 ≡ rowQuiet ss gs k
-  pub done : finished ≡ howMany (λ k. eqb (statusBy (rowQuiet ss gs k)) 2) (below i)
+  pub counts : (k : ℕ) → k < i → get_or qs k 0 ≡ row_quiet ss gs k
+  pub done : finished ≡ how_many (λ k. eqb (status_by (row_quiet ss gs k)) 2) (below i)
   pub small : finished ≤ i
 
 module _ {n : ℕ} {ss gs qs : List ℕ} where
-  pub beginning-none : length qs ≡ 64 → Beginning n ss gs qs 0 0
-  beginning-none z = record { within = omega arith; size = z; counts = λ k b. absurd (omega arith); done = refl; small = omega arith }
+  pub beginning_none : length qs ≡ 64 → Beginning n ss gs qs 0 0
+  beginning_none z = record { within = omega arith; size = z; counts = λ k b. absurd (omega arith); done = refl; small = omega arith }
 
-  pub beginning-more : {finished i q f : ℕ} → Beginning n ss gs qs finished i → n ≤ 64 → i < n → q ≡ rowQuiet ss gs i → f ≡ bit (eqb (statusBy q) 2) → f ≤ 1
+  pub beginning_more : {finished i q f : ℕ} → Beginning n ss gs qs finished i → n ≤ 64 → i < n → q ≡ row_quiet ss gs i → f ≡ bit (eqb (status_by q) 2) → f ≤ 1
       → Beginning n ss gs (set qs i q) (finished + f) (i + 1)
-  beginning-more {finished} {i} {q} {f} inv few low e g one = record {
+  beginning_more {finished} {i} {q} {f} inv few low e g one = record {
     within = omega arith;
     size = length-set qs i q ∙ inv.size;
     counts = λ k b. at k b (ℕ_discrete k i);
-    done = rw (add-one i) (omega (arith, inv.done, g, ap (λ (x : ℕ). bit (eqb (statusBy x) 2)) e, total-last (λ k. bit (eqb (statusBy (rowQuiet ss gs k)) 2)) i));
+    done = rw (add-one i) (omega (arith, inv.done, g, ap (λ (x : ℕ). bit (eqb (status_by x) 2)) e, total_last (λ k. bit (eqb (status_by (row_quiet ss gs k)) 2)) i));
     small = omega (arith, inv.small);
   }
     where
-      at : (k : ℕ) → k < i + 1 → Dec (k ≡ i) → get_or (set qs i q) k 0 ≡ rowQuiet ss gs k
+      at : (k : ℕ) → k < i + 1 → Dec (k ≡ i) → get_or (set qs i q) k 0 ≡ row_quiet ss gs k
       at k b (yes s) = rw s (get_or-set_same qs i q 0 (omega (arith, inv.size)) ∙ e)
       at k b (no ne) = get_or-set_other qs i k q 0 ne ∙ inv.counts k (omega arith)
 
-  pub beginning-all : {finished i : ℕ} → Beginning n ss gs qs finished i → n ≤ i → Begun n ss gs qs (record { deliveries = 0; finished = finished })
-  beginning-all {finished} {i} inv end = record {
+  pub beginning_all : {finished i : ℕ} → Beginning n ss gs qs finished i → n ≤ i → Begun n ss gs qs (record { deliveries = 0; finished = finished })
+  beginning_all {finished} {i} inv end = record {
     size = inv.size;
     counts = λ k b. inv.counts k (omega arith);
     none = refl;
-    finished-right = let z : i ≡ n = omega (arith, inv.within) in inv.done ∙ ap (λ (m : ℕ). howMany (λ k. eqb (statusBy (rowQuiet ss gs k)) 2) (below m)) z;
+    finished-right = let z : i ≡ n = omega (arith, inv.within) in inv.done ∙ ap (λ (m : ℕ). how_many (λ k. eqb (status_by (row_quiet ss gs k)) 2) (below m)) z;
   }
 
 -- ---- what it says
@@ -69,18 +69,18 @@ module _ {h : SheetHeld} {tr fs ts ls xs ss gs ps os line : List ℕ} (net : Net
     few = net.graph.sound.few;
     size = z;
     starts = net.graph.start-size;
-    flow-starts = net.flow-start-size;
+    flow-starts = net.flow-start_size;
     rise = net.graph.rows.rise;
     flow-rise = net.flow.rise;
   }
 
   module _ {inbox : List ℕ} (empty : Empty inbox) where
-    pub state-start : stateSaid h.links os inbox ≡ start (sheetSaid h tr fs ts ls xs)
-    state-start = ext_get_or silent (stateSaid h.links os inbox) (start (sheetSaid h tr fs ts ls xs))
-        (state-length h.links os inbox ∙ sym (held-length h.links fs ts ls xs) ∙ sym (length-replicate (length (sheetSaid h tr fs ts ls xs).links) silent))
-        (λ j b. let low : j < h.links = omega (arith, state-length h.links os inbox) in
-        state-at h.links os inbox j low ∙ ap toldOf (empty.silence (get_or os j 0))
-        ∙ sym (get_or-replicate (length (sheetSaid h tr fs ts ls xs).links) j silent silent (omega (arith, held-length h.links fs ts ls xs))))
+    pub state_start : state_said h.links os inbox ≡ start (sheet_said h tr fs ts ls xs)
+    state_start = ext_get_or silent (state_said h.links os inbox) (start (sheet_said h tr fs ts ls xs))
+        (state_length h.links os inbox ∙ sym (held-length h.links fs ts ls xs) ∙ sym (length-replicate (length (sheet_said h tr fs ts ls xs).links) silent))
+        (λ j b. let low : j < h.links = omega (arith, state_length h.links os inbox) in
+        state_at h.links os inbox j low ∙ ap told_of (empty.silence (get_or os j 0))
+        ∙ sym (get_or-replicate (length (sheet_said h tr fs ts ls xs).links) j silent silent (omega (arith, held-length h.links fs ts ls xs))))
 
     module _ (i : ℕ) (low : i < h.head.nodes) where
       abbrev a : ℕ
@@ -89,36 +89,36 @@ module _ {h : SheetHeld} {tr fs ts ls xs ss gs ps os line : List ℕ} (net : Net
       abbrev e : ℕ
       e = get_or ss (i + 1) 0
 
-      silent-at : (k : ℕ) → isSilent inbox k ≡ true
+      silent-at : (k : ℕ) → is_silent inbox k ≡ true
       silent-at k = eq-eqb (get_or inbox k 0) 0 (empty.silence k)
 
-      flows-at : (p : ℕ) → p < e - a → ltb 0 (get_or (part xs a e) (0 + p) 0) ≡ isSilentFlow xs inbox (a + p)
+      flows-at : (p : ℕ) → p < e - a → ltb 0 (get_or (part xs a e) (0 + p) 0) ≡ is_silent_flow xs inbox (a + p)
       flows-at p b =
           let z : 0 + p ≡ p = omega arith in
-          ap (λ (q : ℕ). ltb 0 (get_or (part xs a e) q 0)) z ∙ ap (ltb 0) (part-getD xs a e p b) ∙ sym (and-true (ltb 0 (get_or xs (a + p) 0)) (silent-at (a + p)))
+          ap (λ (q : ℕ). ltb 0 (get_or (part xs a e) q 0)) z ∙ ap (ltb 0) (part-get_or xs a e p b) ∙ sym (and_true (ltb 0 (get_or xs (a + p) 0)) (silent-at (a + p)))
 
-      flowing-at : get_or gs (i + 1) 0 - get_or gs i 0 ≡ howMany (isSilentFlow xs inbox) (rowNumbers ss i)
+      flowing-at : get_or gs (i + 1) 0 - get_or gs i 0 ≡ how_many (is_silent_flow xs inbox) (row_numbers ss i)
       flowing-at =
           sym (part_length ps (get_or gs i 0) (get_or gs (i + 1) 0) (omega (arith, net.flow.top (i + 1) (omega arith), net.flow-size)))
           ∙ ap length (net.flow.places i low)
           ∙ ap (λ (m : ℕ). length (keep (λ p. ltb 0 (get_or (part xs a e) p 0)) (below m))) (part_length xs a e (omega (arith, net.graph.rows.top (i + 1) (omega arith), links-few net.graph, net.graph.fraction-size)))
-          ∙ count_kept (λ p. ltb 0 (get_or (part xs a e) p 0)) (isSilentFlow xs inbox) a 0 (e - a) flows-at
+          ∙ count_kept (λ p. ltb 0 (get_or (part xs a e) p 0)) (is_silent_flow xs inbox) a 0 (e - a) flows-at
 
-      quiet_at : rowQuiet ss gs i ≡ quietOf ss xs inbox i
-      quiet_at = omega (arith, flowing-at, count-all (isSilent inbox) a (e - a) silent-at)
+      quiet_at : row_quiet ss gs i ≡ quiet_of ss xs inbox i
+      quiet_at = omega (arith, flowing-at, count_all (is_silent inbox) a (e - a) silent-at)
 
     pub begun_kept : {qs : List ℕ} {t : Tally} → Begun h.head.nodes ss gs qs t → Kept h tr fs ts ls xs ss os inbox qs t
     begun_kept {qs} {t} begun = record {
       graph = net.graph;
-      inbox-size = empty.size;
+      inbox_size = empty.size;
       beyond = λ k l. empty.silence k;
       quiet-size = begun.size;
       quiet = right;
-      deliveries = begun.none ∙ sym (ap delivered state-start ∙ count-start (length (sheetSaid h tr fs ts ls xs).links));
-      finished-right = begun.finished-right ∙ sym (finished-by net.graph inbox qs right
-          ∙ total-eq (λ i. bit (eqb (statusBy (get_or qs i 0)) 2)) (λ i. bit (eqb (statusBy (rowQuiet ss gs i)) 2)) (below h.head.nodes)
-          (λ i m. ap (λ (x : ℕ). bit (eqb (statusBy x) 2)) (begun.counts i (in-below h.head.nodes m))));
+      deliveries = begun.none ∙ sym (ap delivered state_start ∙ count_start (length (sheet_said h tr fs ts ls xs).links));
+      finished-right = begun.finished-right ∙ sym (finished_by net.graph inbox qs right
+          ∙ total_eq (λ i. bit (eqb (status_by (get_or qs i 0)) 2)) (λ i. bit (eqb (status_by (row_quiet ss gs i)) 2)) (below h.head.nodes)
+          (λ i m. ap (λ (x : ℕ). bit (eqb (status_by x) 2)) (begun.counts i (in_below h.head.nodes m))));
     }
       where
-        right : (i : ℕ) → i < h.head.nodes → get_or qs i 0 ≡ quietOf ss xs inbox i
+        right : (i : ℕ) → i < h.head.nodes → get_or qs i 0 ≡ quiet_of ss xs inbox i
         right i low = begun.counts i low ∙ quiet_at i low

@@ -8,18 +8,18 @@ use mathlib.Core.List.{List}
 use lib.ListN.{length, get_or, set}
 use lib.Dec.{eqb}
 use borrow.Author.Tests.{eqb-true}
-use Rattle.rules.specs.Sheet.{Link, Sheet, largestStep, largestStored}
-use Rattle.rules.specs.Desk.{Told, silent, told, heard, delayTold, message}
+use Rattle.rules.specs.Sheet.{Link, Sheet, largest_step, largest_stored}
+use Rattle.rules.specs.Desk.{Told, silent, told, heard, delay_told, message}
 use Rattle.rules.specs.Messages.{desk, link_of, sender}
 use Rattle.rules.proofs.Right.{Right}
 use Rattle.rules.proofs.Words.{delay-top}
 use Rattle.desk.specs.declared.Message.{Message}
-use Rattle.desk.specs.Ways.{toldOf, messageSaid}
+use Rattle.desk.specs.Ways.{told_of, message_said}
 use Rattle.sheet.specs.declared.SheetHeld.{SheetHeld}
-use Rattle.sheet.specs.Held.{sheetSaid}
+use Rattle.sheet.specs.Held.{sheet_said}
 use Rattle.network.proofs.Rows.{held-length, held-at}
-use Rattle.node.specs.Net.{RowAt, Tells, stateSaid, SmallInbox, Net}
-use Rattle.node.proofs.Held.{state-at, links-few, turns, desk-held, row-held}
+use Rattle.node.specs.Net.{RowAt, Tells, state_said, SmallInbox, Net}
+use Rattle.node.proofs.Held.{state_at, links-few, turns, desk-held, row-held}
 use Rattle.messages.specs.declared.Tally.{Tally}
 use Rattle.messages.specs.declared.Change.{Change}
 use Rattle.messages.specs.State.{step_of, Kept, CountedAt, StoredAt, Stored}
@@ -32,25 +32,25 @@ module _ {h : SheetHeld} {tr fs ts ls xs ss gs ps os line : List ℕ} (net : Net
     step-top = net.graph.sound.step-top;
     traffic = net.graph.traffic-size;
     link = link_at kept inside;
-    row = row-held net inbox kept.inbox-size (get_or fs j 0) (from_in kept inside) small;
+    row = row-held net inbox kept.inbox_size (get_or fs j 0) (from_in kept inside) small;
     counted = counted-kept kept inside;
     spare = spare-kept kept;
   }
 
   -- the message that link j's node works out
   message-held : {m : Message} → Tells m h.head.step.0 (get_or tr (get_or fs j 0) 0) ss line xs inbox (get_or fs j 0)
-      → messageSaid m ≡ message (sender (sheetSaid h tr fs ts ls xs) (stateSaid h.links os inbox) j)
+      → message_said m ≡ message (sender (sheet_said h tr fs ts ls xs) (state_said h.links os inbox) j)
   message-held tells =
       let low : get_or fs j 0 < h.head.nodes = from_in kept inside in
       tells.said ts (omega (arith, net.graph.rows.top (get_or fs j 0 + 1) (omega arith), links-few net.graph, net.graph.to-size))
-      ∙ ap message (sym (desk-held net inbox kept.inbox-size (get_or fs j 0) low))
-      ∙ ap (λ (l : Link). message (desk (sheetSaid h tr fs ts ls xs) (stateSaid h.links os inbox) l.from)) (sym (held-at h.links fs ts ls xs j inside))
+      ∙ ap message (sym (desk-held net inbox kept.inbox_size (get_or fs j 0) low))
+      ∙ ap (λ (l : Link). message (desk (sheet_said h tr fs ts ls xs) (state_said h.links os inbox) l.from)) (sym (held-at h.links fs ts ls xs j inside))
 
-pub delivered-is : {h : SheetHeld} {j w : ℕ} {tr fs ss gs ps line xs os inbox qs inbox' qs' : List ℕ} {t t' : Tally} {m : Message} {c : Change}
-    → Tells m h.head.step.0 (get_or tr (get_or fs j 0) 0) ss line xs inbox (get_or fs j 0) → toldOf w ≡ messageSaid m
+pub delivered_is : {h : SheetHeld} {j w : ℕ} {tr fs ss gs ps line xs os inbox qs inbox' qs' : List ℕ} {t t' : Tally} {m : Message} {c : Change}
+    → Tells m h.head.step.0 (get_or tr (get_or fs j 0) 0) ss line xs inbox (get_or fs j 0) → told_of w ≡ message_said m
     → Stored j w fs xs os inbox qs inbox' qs' c → t' ≡ step_of t c → Delivered h j tr fs ss gs ps line xs os inbox qs inbox' qs' t t'
-delivered-is {h} {j} {os = os} {inbox = inbox} tells word put amended = record {
-  said = λ net kept inside. put.said kept inside ∙ ap (set (stateSaid h.links os inbox) j) (word ∙ message-held net kept inside tells);
+delivered_is {h} {j} {os = os} {inbox = inbox} tells word put amended = record {
+  said = λ net kept inside. put.said kept inside ∙ ap (set (state_said h.links os inbox) j) (word ∙ message-held net kept inside tells);
   keeps = λ net kept inside. rw amended (put.keeps kept inside);
 }
 
@@ -60,53 +60,53 @@ module _ {step j i : ℕ} {tr fs ss gs ps line xs os inbox qs : List ℕ} {t : T
   pub node-low : i < 64
   node-low = omega (arith, near, d.link.near)
 
-  pub node_row : RowAt i ss gs ps line xs inbox × (step ≤ largestStep)
+  pub node_row : RowAt i ss gs ps line xs inbox × (step ≤ largest_step)
   node_row = (rw near d.row, d.step-top)
 
   module _ {b x : ℕ} (far : b ≡ get_or fs (get_or os j 0) 0) (part : x ≡ get_or xs (get_or os j 0) 0) where
     pub far-asked : (length inbox ≡ 512) × (length qs ≡ 64) × (get_or os j 0 < 512) × (b < 64) × CountedAt (get_or os j 0) b x inbox qs
-    far-asked = (d.link.inbox-size, d.link.quiet-size, d.link.place, omega (arith, far, d.link.far), rw (far, part) d.counted)
+    far-asked = (d.link.inbox_size, d.link.quiet-size, d.link.place, omega (arith, far, d.link.far), rw (far, part) d.counted)
 
-pub delivered-by : {h : SheetHeld} {j i b x w : ℕ} {tr fs ss gs ps line xs os inbox qs inbox' qs' : List ℕ} {t t' : Tally} {m : Message} {c : Change}
+pub delivered_by : {h : SheetHeld} {j i b x w : ℕ} {tr fs ss gs ps line xs os inbox qs inbox' qs' : List ℕ} {t t' : Tally} {m : Message} {c : Change}
     → i ≡ get_or fs j 0 → b ≡ get_or fs (get_or os j 0) 0 → x ≡ get_or xs (get_or os j 0) 0 → 0 < w
-    → Tells m h.head.step.0 (get_or tr i 0) ss line xs inbox i → toldOf w ≡ messageSaid m
+    → Tells m h.head.step.0 (get_or tr i 0) ss line xs inbox i → told_of w ≡ message_said m
     → StoredAt (get_or os j 0) b x w inbox qs inbox' qs' c → t' ≡ step_of t c → Delivered h j tr fs ss gs ps line xs os inbox qs inbox' qs' t t'
-delivered-by near far part some tells word put amended = delivered-is (rw near at tells) word (stored_at some (rw (far, part) at put)) amended
+delivered_by near far part some tells word put amended = delivered_is (rw near at tells) word (stored_at some (rw (far, part) at put)) amended
 
 -- ---- in a right state the stored delays are small
-told-delay : (x : ℕ) → delayTold (toldOf x) ≡ x / 4
+told-delay : (x : ℕ) → delay_told (told_of x) ≡ x / 4
 told-delay x = go (eqb x 0) refl
   where
-    go : (b : Bool) → eqb x 0 ≡ b → delayTold (toldOf x) ≡ x / 4
+    go : (b : Bool) → eqb x 0 ≡ b → delay_told (told_of x) ≡ x / 4
     go true e = let z = eqb-true x 0 e in rw z
     go false e = rw e
 
 module _ {h : SheetHeld} {tr fs ts ls xs ss os inbox qs : List ℕ} {t : Tally} (kept : Kept h tr fs ts ls xs ss os inbox qs t) where
   abbrev s : Sheet
-  s = sheetSaid h tr fs ts ls xs
+  s = sheet_said h tr fs ts ls xs
 
-  pub right-small : Right s (stateSaid h.links os inbox) → SmallInbox inbox
+  pub right-small : Right s (state_said h.links os inbox) → SmallInbox inbox
   right-small right k = go (dec_lt k h.links)
     where
       -- what stands at place k was delivered on the opposite link
-      at_place : k < h.links → toldOf (get_or inbox k 0) ≡ get_or (stateSaid h.links os inbox) (get_or os k 0) silent
-      at_place a = sym (state-at h.links os inbox (get_or os k 0) (kept.graph.opposites.low k a) ∙ ap (λ (x : ℕ). toldOf (get_or inbox x 0)) (turns kept.graph k a))
+      at_place : k < h.links → told_of (get_or inbox k 0) ≡ get_or (state_said h.links os inbox) (get_or os k 0) silent
+      at_place a = sym (state_at h.links os inbox (get_or os k 0) (kept.graph.opposites.low k a) ∙ ap (λ (x : ℕ). told_of (get_or inbox x 0)) (turns kept.graph k a))
 
-      small : (w : Told) → (heard w ≡ true → delayTold w ≤ largestStored) → delayTold w ≤ largestStored
+      small : (w : Told) → (heard w ≡ true → delay_told w ≤ largest_stored) → delay_told w ≤ largest_stored
       small silent f = omega arith
       small (told m b) f = f refl
 
-      go : Dec (k < h.links) → get_or inbox k 0 / 4 ≤ largestStored
+      go : Dec (k < h.links) → get_or inbox k 0 / 4 ≤ largest_stored
       go (no n) = let z = kept.beyond k (omega arith) in rw z (omega arith)
       go (yes a) =
           let o : get_or os k 0 < h.links = kept.graph.opposites.low k a in
           omega (
             arith,
             told-delay (get_or inbox k 0),
-            small (toldOf (get_or inbox k 0)) (λ e.
+            small (told_of (get_or inbox k 0)) (λ e.
                 omega (
                   arith,
-                  ap delayTold (at_place a ∙ right.holds (get_or os k 0) (omega (arith, held-length h.links fs ts ls xs)) (ap heard (sym (at_place a)) ∙ e)),
+                  ap delay_told (at_place a ∙ right.holds (get_or os k 0) (omega (arith, held-length h.links fs ts ls xs)) (ap heard (sym (at_place a)) ∙ e)),
                   delay-top kept.graph.sound (link_of s (get_or os k 0)).from (rw (held-at h.links fs ts ls xs (get_or os k 0) o) (from_in kept o)),
                 )),
           )

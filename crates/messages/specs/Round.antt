@@ -1,10 +1,10 @@
 -- A delivery and a list of deliveries, over the slices.
 use Rattle.std.specs.Prelude.{ℕ, ◌≤◌, ◌<◌, ◌≡◌, List, length, get_or}
-use Rattle.rules.specs.Sheet.{largestStep}
+use Rattle.rules.specs.Sheet.{largest_step}
 use Rattle.rules.specs.Messages.{State, deliver, Ran as RunEnd, stopped, left, run}
 use Rattle.sheet.specs.declared.SheetHeld.{SheetHeld}
-use Rattle.sheet.specs.Held.{sheetSaid}
-use Rattle.node.specs.Net.{RowAt, stateSaid, Net}
+use Rattle.sheet.specs.Held.{sheet_said}
+use Rattle.node.specs.Net.{RowAt, state_said, Net}
 use Rattle.messages.specs.declared.Tally.{Tally}
 use Rattle.messages.specs.declared.Ran.{Ran}
 use Rattle.messages.specs.declared.Ran.TheVariants.{Stopped, Left}
@@ -12,7 +12,7 @@ use Rattle.messages.specs.State.{Kept, LinkAt, Spare, Counted}
 
 -- link j's node can work its message out, and there is room to store it and to count it
 pub record Deliverable (step j : ℕ) (tr fs ss gs ps line xs os inbox qs : List ℕ) (t : Tally) : Type 0 where
-  pub step-top : step ≤ largestStep
+  pub step-top : step ≤ largest_step
   pub traffic : length tr ≡ 64
   pub link : LinkAt j fs xs os inbox qs
   pub row : RowAt (get_or fs j 0) ss gs ps line xs inbox
@@ -22,7 +22,7 @@ pub record Deliverable (step j : ℕ) (tr fs ss gs ps line xs os inbox qs : List
 -- the delivery on link j was made, by the rules: in every state that the slices keep, of the one sheet that they hold
 pub record Delivered (h : SheetHeld) (j : ℕ) (tr fs ss gs ps line xs os inbox qs inbox' qs' : List ℕ) (t t' : Tally) : Type 0 where
   pub said : {ts ls : List ℕ} → Net h tr fs ts ls xs ss gs ps os line → Kept h tr fs ts ls xs ss os inbox qs t → j < h.links
-      → stateSaid h.links os inbox' ≡ deliver (sheetSaid h tr fs ts ls xs) (stateSaid h.links os inbox) j
+      → state_said h.links os inbox' ≡ deliver (sheet_said h tr fs ts ls xs) (state_said h.links os inbox) j
   pub keeps : {ts ls : List ℕ} → Net h tr fs ts ls xs ss gs ps os line → Kept h tr fs ts ls xs ss os inbox qs t → j < h.links
       → Kept h tr fs ts ls xs ss os inbox' qs' t'
 
@@ -33,9 +33,9 @@ pub record NetHeld (h : SheetHeld) (tr fs ss gs ps line xs os : List ℕ) : Type
   pub net : Net h tr fs ts ls xs ss gs ps os line
 
 -- what the code's answer says, with the state that it leaves
-abbrev pub ranSaid : Ran → State → RunEnd
-ranSaid (Stopped m k) st = stopped m k
-ranSaid (Left t) st = left st
+abbrev pub ran_said : Ran → State → RunEnd
+ran_said (Stopped m k) st = stopped m k
+ran_said (Left t) st = left st
 
 -- the state that is left is kept
 abbrev pub RanKept : Ran → SheetHeld → List ℕ → List ℕ → List ℕ → List ℕ → List ℕ → List ℕ → List ℕ → List ℕ → List ℕ → Type 0
@@ -44,5 +44,5 @@ RanKept (Left t) h tr fs ts ls xs ss os inbox qs = Kept h tr fs ts ls xs ss os i
 
 -- the deliveries of a list, from the beginning
 pub record ListRun (r : Ran) (h : SheetHeld) (js tr fs ss gs ps line xs os inbox qs : List ℕ) : Type 0 where
-  pub said : {ts ls : List ℕ} → Net h tr fs ts ls xs ss gs ps os line → ranSaid r (stateSaid h.links os inbox) ≡ run (sheetSaid h tr fs ts ls xs) js
+  pub said : {ts ls : List ℕ} → Net h tr fs ts ls xs ss gs ps os line → ran_said r (state_said h.links os inbox) ≡ run (sheet_said h tr fs ts ls xs) js
   pub keeps : {ts ls : List ℕ} → Net h tr fs ts ls xs ss gs ps os line → RanKept r h tr fs ts ls xs ss os inbox qs

@@ -1,46 +1,46 @@
 -- The state of a round in slices: what was delivered, how many neighbours each node has still to hear, the tally.
 use Rattle.std.specs.Prelude.{ℕ, ◌+◌, ◌-◌, ◌*◌, ◌%◌, ◌≤◌, ◌<◌, ◌≡◌, Bool, true, false, cond, ◌&&◌, List, length, get_or, set, ltb, leb, eqb}
-use Rattle.rules.specs.Lists.{bit, counted, below, howMany}
+use Rattle.rules.specs.Lists.{bit, counted, below, how_many}
 use Rattle.rules.specs.Desk.{heard}
-use Rattle.rules.specs.Messages.{waitsOn, delivered, finished}
-use Rattle.desk.specs.Ways.{toldOf}
+use Rattle.rules.specs.Messages.{waits_on, delivered, finished}
+use Rattle.desk.specs.Ways.{told_of}
 use Rattle.sheet.specs.declared.SheetHeld.{SheetHeld}
-use Rattle.sheet.specs.Held.{sheetSaid}
-use Rattle.node.specs.Net.{stateSaid, Graph}
+use Rattle.sheet.specs.Held.{sheet_said}
+use Rattle.node.specs.Net.{state_said, Graph}
 use Rattle.messages.specs.declared.Tally.{Tally}
 use Rattle.messages.specs.declared.Change.{Change}
 use Rattle.messages.specs.declared.Change.TheVariants.{Again, Heard, Finished}
 
 -- the numbers of node i's links
-abbrev pub rowNumbers : List ℕ → ℕ → List ℕ
-rowNumbers ss i = counted (get_or ss i 0) (get_or ss (i + 1) 0 - get_or ss i 0)
+abbrev pub row_numbers : List ℕ → ℕ → List ℕ
+row_numbers ss i = counted (get_or ss i 0) (get_or ss (i + 1) 0 - get_or ss i 0)
 
 -- the far node of link p is still silent; and the link flows
-abbrev pub isSilent : List ℕ → ℕ → Bool
-isSilent inbox p = eqb (get_or inbox p 0) 0
+abbrev pub is_silent : List ℕ → ℕ → Bool
+is_silent inbox p = eqb (get_or inbox p 0) 0
 
-abbrev pub isSilentFlow : List ℕ → List ℕ → ℕ → Bool
-isSilentFlow xs inbox p = ltb 0 (get_or xs p 0) && isSilent inbox p
+abbrev pub is_silent_flow : List ℕ → List ℕ → ℕ → Bool
+is_silent_flow xs inbox p = ltb 0 (get_or xs p 0) && is_silent inbox p
 
 -- how many neighbours node i has still to hear, times 1,024, and how many of them it has a flowing link to
-abbrev pub quietOf : List ℕ → List ℕ → List ℕ → ℕ → ℕ
-quietOf ss xs inbox i = howMany (isSilent inbox) (rowNumbers ss i) * 1024 + howMany (isSilentFlow xs inbox) (rowNumbers ss i)
+abbrev pub quiet_of : List ℕ → List ℕ → List ℕ → ℕ → ℕ
+quiet_of ss xs inbox i = how_many (is_silent inbox) (row_numbers ss i) * 1024 + how_many (is_silent_flow xs inbox) (row_numbers ss i)
 
 -- the status that such a count gives
-abbrev pub statusBy : ℕ → ℕ
-statusBy q = cond (ltb q 1024) 2 (cond (eqb (q % 1024) 0) 1 0)
+abbrev pub status_by : ℕ → ℕ
+status_by q = cond (ltb q 1024) 2 (cond (eqb (q % 1024) 0) 1 0)
 
 -- whether a message waits on a link with fraction x that carried the word w, where its node has such a count
 abbrev pub waits_by : ℕ → ℕ → ℕ → Bool
-waits_by q x w = waitsOn (statusBy q) (record { from = 0; to = 0; load = 0; fraction = x }) (toldOf w)
+waits_by q x w = waits_on (status_by q) (record { from = 0; to = 0; load = 0; fraction = x }) (told_of w)
 
 -- one neighbour fewer to hear, over a link with fraction x
 abbrev pub fewer : ℕ → ℕ → ℕ
 fewer q x = q - (1024 + bit (ltb 0 x))
 
 -- what a first word changes that leaves its far node with such a count
-abbrev pub changeOf : ℕ → Change
-changeOf q = cond (eqb (statusBy q) 2) Finished Heard
+abbrev pub change_of : ℕ → Change
+change_of q = cond (eqb (status_by q) 2) Finished Heard
 
 -- the tally after a change: one delivery more where a word was heard, and one node finished more where it finishes
 abbrev pub step_of : Tally → Change → Tally
@@ -56,19 +56,19 @@ pub record Spare (t : Tally) : Type 0 where
 -- the counts and the tally are right
 pub record Kept (h : SheetHeld) (tr fs ts ls xs ss os inbox qs : List ℕ) (t : Tally) : Type 0 where
   pub graph : Graph h tr fs ts ls xs ss os
-  pub inbox-size : length inbox ≡ 512
+  pub inbox_size : length inbox ≡ 512
   pub beyond : (k : ℕ) → h.links ≤ k → get_or inbox k 0 ≡ 0
   pub quiet-size : length qs ≡ 64
-  pub quiet : (i : ℕ) → i < h.head.nodes → get_or qs i 0 ≡ quietOf ss xs inbox i
-  pub deliveries : t.deliveries ≡ delivered (stateSaid h.links os inbox)
-  pub finished-right : t.finished ≡ finished (sheetSaid h tr fs ts ls xs) (stateSaid h.links os inbox)
+  pub quiet : (i : ℕ) → i < h.head.nodes → get_or qs i 0 ≡ quiet_of ss xs inbox i
+  pub deliveries : t.deliveries ≡ delivered (state_said h.links os inbox)
+  pub finished-right : t.finished ≡ finished (sheet_said h tr fs ts ls xs) (state_said h.links os inbox)
 
 -- link j, its opposite's place and the nodes at its ends stand in the slices
 pub record LinkAt (j : ℕ) (fs xs os inbox qs : List ℕ) : Type 0 where
   pub from-size : length fs ≡ 512
   pub fraction-size : length xs ≡ 512
   pub opposite-size : length os ≡ 512
-  pub inbox-size : length inbox ≡ 512
+  pub inbox_size : length inbox ≡ 512
   pub quiet-size : length qs ≡ 64
   pub low : j < 512
   pub place : get_or os j 0 < 512
@@ -76,16 +76,16 @@ pub record LinkAt (j : ℕ) (fs xs os inbox qs : List ℕ) : Type 0 where
   pub far : get_or fs (get_or os j 0) 0 < 64
 
 -- whether the message on link j waits, by the counts
-abbrev pub waitingAt : ℕ → List ℕ → List ℕ → List ℕ → List ℕ → List ℕ → Bool
-waitingAt j fs xs os inbox qs = waits_by (get_or qs (get_or fs j 0) 0) (get_or xs j 0) (get_or inbox (get_or os j 0) 0)
+abbrev pub waiting_at : ℕ → List ℕ → List ℕ → List ℕ → List ℕ → List ℕ → Bool
+waiting_at j fs xs os inbox qs = waits_by (get_or qs (get_or fs j 0) 0) (get_or xs j 0) (get_or inbox (get_or os j 0) 0)
 
 -- what a number j of a list is refused with, where there are so many links; 0 is no refusal
-abbrev pub refusalAt : ℕ → ℕ → List ℕ → List ℕ → List ℕ → List ℕ → List ℕ → ℕ
-refusalAt count j fs xs os inbox qs = cond (leb count j) 12 (cond (waitingAt j fs xs os inbox qs) 0 10)
+abbrev pub refusal_at : ℕ → ℕ → List ℕ → List ℕ → List ℕ → List ℕ → List ℕ → ℕ
+refusal_at count j fs xs os inbox qs = cond (leb count j) 12 (cond (waiting_at j fs xs os inbox qs) 0 10)
 
 -- the counts have room for a first word at place p of the inbox, which node b reads by its link with fraction x
 abbrev pub CountedAt : ℕ → ℕ → ℕ → List ℕ → List ℕ → Type 0
-CountedAt p b x inbox qs = heard (toldOf (get_or inbox p 0)) ≡ false → 1024 + bit (ltb 0 x) ≤ get_or qs b 0
+CountedAt p b x inbox qs = heard (told_of (get_or inbox p 0)) ≡ false → 1024 + bit (ltb 0 x) ≤ get_or qs b 0
 
 -- the counts have room for a first word on link j
 abbrev pub Counted : ℕ → List ℕ → List ℕ → List ℕ → List ℕ → List ℕ → Type 0
@@ -94,13 +94,13 @@ Counted j fs xs os inbox qs = CountedAt (get_or os j 0) (get_or fs (get_or os j 
 -- the word w stands at place p of the inbox; where it is the first, node b has one neighbour fewer to hear, over a link with fraction x
 pub record StoredAt (p b x w : ℕ) (inbox qs inbox' qs' : List ℕ) (c : Change) : Type 0 where
   pub word : inbox' ≡ set inbox p w
-  pub again : heard (toldOf (get_or inbox p 0)) ≡ true → (qs' ≡ qs) × (c ≡ Again)
-  pub first : heard (toldOf (get_or inbox p 0)) ≡ false → (qs' ≡ set qs b (fewer (get_or qs b 0) x)) × (c ≡ changeOf (fewer (get_or qs b 0) x))
+  pub again : heard (told_of (get_or inbox p 0)) ≡ true → (qs' ≡ qs) × (c ≡ Again)
+  pub first : heard (told_of (get_or inbox p 0)) ≡ false → (qs' ≡ set qs b (fewer (get_or qs b 0) x)) × (c ≡ change_of (fewer (get_or qs b 0) x))
 
 -- the word w is stored on link j and nothing else changes but the counts and the tally, by c, in every state that the slices keep
 pub record Stored (j w : ℕ) (fs xs os inbox qs inbox' qs' : List ℕ) (c : Change) : Type 0 where
   pub said : {h : SheetHeld} {tr ts ls ss : List ℕ} {t : Tally} → Kept h tr fs ts ls xs ss os inbox qs t → j < h.links
-      → stateSaid h.links os inbox' ≡ set (stateSaid h.links os inbox) j (toldOf w)
+      → state_said h.links os inbox' ≡ set (state_said h.links os inbox) j (told_of w)
   pub keeps : {h : SheetHeld} {tr ts ls ss : List ℕ} {t : Tally} → Kept h tr fs ts ls xs ss os inbox qs t → j < h.links
       → Kept h tr fs ts ls xs ss os inbox' qs' (step_of t c)
 
@@ -114,8 +114,8 @@ pub record Alike (count : ℕ) (fs gs : List ℕ) : Type 0 where
   pub size : length gs ≡ 512
 
 -- the row lengths of n nodes, and how many of each flow, as counts of neighbours to hear
-abbrev pub rowQuiet : List ℕ → List ℕ → ℕ → ℕ
-rowQuiet ss gs i = (get_or ss (i + 1) 0 - get_or ss i 0) * 1024 + (get_or gs (i + 1) 0 - get_or gs i 0)
+abbrev pub row_quiet : List ℕ → List ℕ → ℕ → ℕ
+row_quiet ss gs i = (get_or ss (i + 1) 0 - get_or ss i 0) * 1024 + (get_or gs (i + 1) 0 - get_or gs i 0)
 
 -- where the rows of n nodes and their flowing places begin, and room for their counts
 pub record RowsAt (n : ℕ) (ss gs qs : List ℕ) : Type 0 where
@@ -129,6 +129,6 @@ pub record RowsAt (n : ℕ) (ss gs qs : List ℕ) : Type 0 where
 -- the counts of n nodes that have heard nobody, and how many nodes have nobody to hear
 pub record Begun (n : ℕ) (ss gs qs : List ℕ) (t : Tally) : Type 0 where
   pub size : length qs ≡ 64
-  pub counts : (i : ℕ) → i < n → get_or qs i 0 ≡ rowQuiet ss gs i
+  pub counts : (i : ℕ) → i < n → get_or qs i 0 ≡ row_quiet ss gs i
   pub none : t.deliveries ≡ 0
-  pub finished-right : t.finished ≡ howMany (λ i. eqb (statusBy (rowQuiet ss gs i)) 2) (below n)
+  pub finished-right : t.finished ≡ how_many (λ i. eqb (status_by (row_quiet ss gs i)) 2) (below n)

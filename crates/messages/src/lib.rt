@@ -3,7 +3,7 @@ ghost use Rattle.std.specs.Prelude.{◌≡◌, ℕ, ◌+◌, ◌≤◌, ◌<◌,
 ghost use Rattle.rules.specs.Lists.{bit};
 ghost use Rattle.links.specs.List.{froms, fractions};
 ghost use Rattle.node.specs.Net.{Empty};
-ghost use Rattle.messages.specs.State.{AlikeAt, statusBy, waits_by, fewer, changeOf, step_of, LinkAt, waitingAt, refusalAt, Spare, CountedAt, Counted, StoredAt, Stored, rowQuiet, RowsAt, Begun};
+ghost use Rattle.messages.specs.State.{AlikeAt, status_by, waits_by, fewer, change_of, step_of, LinkAt, waiting_at, refusal_at, Spare, CountedAt, Counted, StoredAt, Stored, row_quiet, RowsAt, Begun};
 ghost use Rattle.messages.specs.declared.Ran.TheVariants.{Left};
 ghost use Rattle.messages.specs.Round.{Deliverable, Delivered, NetHeld, ListRun};
 
@@ -24,7 +24,7 @@ pub struct Tally {
 }
 
 pub fn status_of(q: Quiet) -> u8
-    ensures { result ≡ statusBy q.0 }
+    ensures { result ≡ status_by q.0 }
 {
     if q.0 < 1024 {
         return 2;
@@ -54,7 +54,7 @@ pub fn is_waiting(
     quiet: &[u32],
 ) -> bool
     requires { LinkAt j from.now fraction.now opposite.now inbox.now quiet.now }
-    ensures { result ≡ waitingAt j from.now fraction.now opposite.now inbox.now quiet.now }
+    ensures { result ≡ waiting_at j from.now fraction.now opposite.now inbox.now quiet.now }
 {
     let i = from[j] as usize;
     let p = opposite[j] as usize;
@@ -83,7 +83,7 @@ pub enum Change {
 
 // A first word leaves its far node with the counts q.
 fn change_of(q: Quiet) -> Change
-    ensures { result ≡ changeOf q.0 }
+    ensures { result ≡ change_of q.0 }
 {
     let stat = status_of(q);
     if stat == 2 {
@@ -161,7 +161,7 @@ fn wide(x: u16) -> u32
 // Node i's counts while it has heard nobody.
 fn row_quiet(i: usize, starts: &[u16], flow_starts: &[u16]) -> Quiet
     requires { (i < 64) × (length starts.now ≡ 65) × (length flow_starts.now ≡ 65) × (get_or starts.now i 0 ≤ get_or starts.now (i + 1) 0) × (get_or flow_starts.now i 0 ≤ get_or flow_starts.now (i + 1) 0) }
-    ensures { result.0 ≡ rowQuiet starts.now flow_starts.now i }
+    ensures { result.0 ≡ row_quiet starts.now flow_starts.now i }
 {
     let all = wide(starts[i + 1]) - wide(starts[i]);
     let flowing = wide(flow_starts[i + 1]) - wide(flow_starts[i]);
@@ -169,7 +169,7 @@ fn row_quiet(i: usize, starts: &[u16], flow_starts: &[u16]) -> Quiet
 }
 
 fn finished_bit(q: Quiet) -> usize
-    ensures { (result ≡ bit (eqb (statusBy q.0) 2)) × (result ≤ 1) }
+    ensures { (result ≡ bit (eqb (status_by q.0) 2)) × (result ≤ 1) }
 {
     if status_of(q) == 2 { 1 } else { 0 }
 }
@@ -304,7 +304,7 @@ fn refusal_at(
     quiet: &[u32],
 ) -> u8
     requires { j < count → LinkAt j (froms links.now) (fractions links.now) opposite.now inbox.now quiet.now }
-    ensures { result ≡ refusalAt count j (froms links.now) (fractions links.now) opposite.now inbox.now quiet.now }
+    ensures { result ≡ refusal_at count j (froms links.now) (fractions links.now) opposite.now inbox.now quiet.now }
 {
     if count <= j {
         return 12;

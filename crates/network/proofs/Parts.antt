@@ -10,7 +10,7 @@ use lib.ListN.{length, get_or, take, drop, set, length-append, length-drop, leng
 use lib.Seq.{take-suc, drop-cons, take-take, get_or-drop, get_or-append_seam, get_or-set_same, take-set-le}
 use lib.Dec.{ltb}
 use Rattle.rules.specs.Lists.{keep, total, bit, counted, below, flowing}
-use Rattle.rules.proofs.Lists.{below_last, in-below}
+use Rattle.rules.proofs.Lists.{below_last, in_below}
 use Rattle.network.specs.Rows.{part}
 
 -- ---- part
@@ -42,8 +42,8 @@ part-kept m xs ys h a e l = front xs ∙ ap (λ (zs : List ℕ). take (e - a) (d
     front zs = let b : e - a ≤ m - a = omega arith in rw (drop-take a m zs, take-take (e - a) (m - a) (drop a zs) b)
 
 -- one place more is written, and counted where the bit is 1
-pub part-fill : (xs : List ℕ) (a m v : ℕ) (b : Bool) → a ≤ m → m < length xs → part (set xs m v) a (m + bit b) ≡ part xs a m ++ cond b (v ∷ []) []
-part-fill xs a m v b h l = go b (part-kept m (set xs m v) xs (take-set-le m xs m v (omega arith)) a m (omega arith))
+pub part_fill : (xs : List ℕ) (a m v : ℕ) (b : Bool) → a ≤ m → m < length xs → part (set xs m v) a (m + bit b) ≡ part xs a m ++ cond b (v ∷ []) []
+part_fill xs a m v b h l = go b (part-kept m (set xs m v) xs (take-set-le m xs m v (omega arith)) a m (omega arith))
   where
     go : (b : Bool) → part (set xs m v) a m ≡ part xs a m → part (set xs m v) a (m + bit b) ≡ part xs a m ++ cond b (v ∷ []) []
     go true e =
@@ -73,12 +73,12 @@ module _ {A : Type 0} where
   keep_same p q [] h = refl
   keep_same p q (x ∷ xs) h = rw (h x (here refl), keep_same p q xs (λ y m. h y (there m)))
 
-counted-add : (k m n : ℕ) → counted k (m + n) ≡ counted k m ++ counted (k + m) n
-counted-add k zero n = let z : k + 0 ≡ k = omega arith in let y : 0 + n ≡ n = omega arith in rw (z, y)
-counted-add k (suc m) n =
+counted_add : (k m n : ℕ) → counted k (m + n) ≡ counted k m ++ counted (k + m) n
+counted_add k zero n = let z : k + 0 ≡ k = omega arith in let y : 0 + n ≡ n = omega arith in rw (z, y)
+counted_add k (suc m) n =
     let z : suc m + n ≡ suc (m + n) = omega arith in
     let y : k + suc m ≡ suc k + m = omega arith in
-    rw (z, y, counted-add (suc k) m n)
+    rw (z, y, counted_add (suc k) m n)
 
 module _ (p : ℕ → Bool) where
   keep-none : (k n : ℕ) → ((j : ℕ) → k ≤ j → j < k + n → p j ≡ false) → keep p (counted k n) ≡ []
@@ -92,13 +92,13 @@ module _ (p : ℕ → Bool) where
       rw (h k (omega arith) (omega arith)) (ap (λ (l : List ℕ). k ∷ l) (keep_all (suc k) n (λ j a b. h j (omega arith) (omega arith))))
 
   -- a test that passes from a up to e alone
-  pub keep-range : (n a e : ℕ) → a ≤ e → e ≤ n → ((j : ℕ) → j < a → p j ≡ false) → ((j : ℕ) → a ≤ j → j < e → p j ≡ true)
+  pub keep_range : (n a e : ℕ) → a ≤ e → e ≤ n → ((j : ℕ) → j < a → p j ≡ false) → ((j : ℕ) → a ≤ j → j < e → p j ≡ true)
       → ((j : ℕ) → e ≤ j → j < n → p j ≡ false) → keep p (below n) ≡ counted a (e - a)
-  keep-range n a e h l f g k =
+  keep_range n a e h l f g k =
       let z : n ≡ a + ((e - a) + (n - e)) = omega arith in
       let y : 0 + a ≡ a = omega arith in
       ap (λ (m : ℕ). keep p (counted 0 m)) z
-      ∙ ap (keep p) (counted-add 0 a ((e - a) + (n - e)) ∙ ap (λ (m : ℕ). counted 0 a ++ counted m ((e - a) + (n - e))) y ∙ ap (λ (t : List ℕ). counted 0 a ++ t) (counted-add a (e - a) (n - e)))
+      ∙ ap (keep p) (counted_add 0 a ((e - a) + (n - e)) ∙ ap (λ (m : ℕ). counted 0 a ++ counted m ((e - a) + (n - e))) y ∙ ap (λ (t : List ℕ). counted 0 a ++ t) (counted_add a (e - a) (n - e)))
       ∙ keep_append p (counted 0 a) (counted a (e - a) ++ counted (a + (e - a)) (n - e))
       ∙ ap₂ ◌++◌ (keep-none 0 a (λ j b c. f j (omega arith))) (keep_append p (counted a (e - a)) (counted (a + (e - a)) (n - e)))
       ∙ ap₂ ◌++◌ (keep_all a (e - a) (λ j b c. g j b (omega arith))) (keep-none (a + (e - a)) (n - e) (λ j b c. k j (omega arith) (omega arith)))
@@ -113,5 +113,5 @@ flowing-more ys y =
     ∙ ap (keep q) (below_last (length ys))
     ∙ keep_append q (below (length ys)) (length ys ∷ [])
     ∙ ap₂ ◌++◌
-    (keep_same q (λ p. ltb 0 (get_or ys p 0)) (below (length ys)) (λ p m. ap (ltb 0) (get_or-append ys (y ∷ []) 0 p (in-below (length ys) m))))
+    (keep_same q (λ p. ltb 0 (get_or ys p 0)) (below (length ys)) (λ p m. ap (ltb 0) (get_or-append ys (y ∷ []) 0 p (in_below (length ys) m))))
     (ap (λ (x : ℕ). cond (ltb 0 x) (length ys ∷ []) []) (get_or-append_seam ys y [] 0))

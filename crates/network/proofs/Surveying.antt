@@ -10,50 +10,50 @@ use lib.ListN.{length, get_or, take, set, length-set}
 use lib.Seq.{get_or-set_same, get_or-set_other, take-set-le}
 use lib.Dec.{ltb, eqb}
 use borrow.Author.Count.{below_more}
-use Rattle.rules.specs.Lists.{total, bit, below, Place, nowhere, at, firstFrom, first, flowing}
+use Rattle.rules.specs.Lists.{total, bit, below, Place, nowhere, at, first_from, first, flowing}
 use Rattle.rules.specs.Sheet.{whole, row_of}
 use Rattle.rules.proofs.Tests.{bit-one}
 use Rattle.rules.proofs.Lists.{total-append, below_last, below_length}
-use Rattle.sheet.specs.Held.{held, foundSaid}
+use Rattle.sheet.specs.Held.{held, found_said}
 use Rattle.sheet.specs.declared.HeadHeld.{HeadHeld}
 use Rattle.sheet.specs.declared.Found.{Found}
 use Rattle.network.specs.Rows.{part, Sorted, Rows, Flow}
-use Rattle.network.specs.Answers.{RowTo, RowSurveyed, or_else, wrongSum, Surveyed}
+use Rattle.network.specs.Answers.{RowTo, RowSurveyed, or_else, wrong_sum, Surveyed}
 use Rattle.network.specs.declared.RowHeld.{RowHeld}
-use Rattle.network.proofs.Parts.{part_none, part-more, part-kept, part-fill, flowing-more}
-use Rattle.network.proofs.Rows.{part_length, Range, range-sum}
+use Rattle.network.proofs.Parts.{part_none, part-more, part-kept, part_fill, flowing-more}
+use Rattle.network.proofs.Rows.{part_length, Range, range_sum}
 
 -- ---- one row
-module _ {i start flowStart count : ℕ} {fs xs before : List ℕ} where
-  pub row-none : start ≤ count → flowStart ≤ start → length before ≡ 512 → RowTo i start flowStart count fs xs before start flowStart 0 before
+module _ {i start flow_start count : ℕ} {fs xs before : List ℕ} where
+  pub row-none : start ≤ count → flow_start ≤ start → length before ≡ 512 → RowTo i start flow_start count fs xs before start flow_start 0 before
   row-none h l s = record {
     rise = omega arith;
     top = h;
     inside = λ j a b. absurd (omega arith);
     sums = rw (part_none xs start);
-    flowRise = omega arith;
-    flowTop = l;
-    places = rw (part_none xs start, part_none before flowStart);
+    flow_rise = omega arith;
+    flow_top = l;
+    places = rw (part_none xs start, part_none before flow_start);
     kept = refl;
     size = s;
   }
 
-  pub row_more : {k m sum w : ℕ} {ps : List ℕ} → RowTo i start flowStart count fs xs before k m sum ps → k < count → count ≤ 512 → length xs ≡ 512
-      → get_or fs k 0 ≡ i → w ≡ bit (ltb 0 (get_or xs k 0)) → RowTo i start flowStart count fs xs before (k + 1) (m + w) (sum + get_or xs k 0) (set ps m (k - start))
+  pub row_more : {k m sum w : ℕ} {ps : List ℕ} → RowTo i start flow_start count fs xs before k m sum ps → k < count → count ≤ 512 → length xs ≡ 512
+      → get_or fs k 0 ≡ i → w ≡ bit (ltb 0 (get_or xs k 0)) → RowTo i start flow_start count fs xs before (k + 1) (m + w) (sum + get_or xs k 0) (set ps m (k - start))
   row_more {k} {m} {sum} {w} {ps} r h few long e b =
       let x = get_or xs k 0 in
       let more : part xs start (k + 1) ≡ part xs start k ++ (x ∷ []) = part-more xs start k r.rise (omega arith) in
-      let room : m < length ps = omega (arith, r.flowTop, r.size) in
+      let room : m < length ps = omega (arith, r.flow_top, r.size) in
       let place : length (part xs start k) ≡ k - start = part_length xs start k (omega arith) in
       record {
         rise = omega (arith, r.rise);
         top = omega arith;
         inside = λ j a l. below_more (λ (j : ℕ). start ≤ j → get_or fs j 0 ≡ i) k (λ j l a. r.inside j a l) (λ a. e) j l a;
         sums = rw (more, total-append (λ x. x) (part xs start k) (x ∷ [])) (omega (arith, r.sums));
-        flowRise = omega (arith, r.flowRise);
-        flowTop = omega (arith, r.flowTop, bit-one (ltb 0 x));
-        places = rw (b, part-fill ps flowStart m (k - start) (ltb 0 x) r.flowRise room, r.places, more, flowing-more (part xs start k) x, place);
-        kept = take-set-le flowStart ps m (k - start) r.flowRise ∙ r.kept;
+        flow_rise = omega (arith, r.flow_rise);
+        flow_top = omega (arith, r.flow_top, bit-one (ltb 0 x));
+        places = rw (b, part_fill ps flow_start m (k - start) (ltb 0 x) r.flow_rise room, r.places, more, flowing-more (part xs start k) x, place);
+        kept = take-set-le flow_start ps m (k - start) r.flow_rise ∙ r.kept;
         size = length-set ps m (k - start) ∙ r.size;
       }
 
@@ -126,30 +126,30 @@ module _ {i k m f : ℕ} {ss xs gs ps qs : List ℕ} (e : ℕ) where
           rw (z, new gs i f space, old gs i f i (omega arith), g, new ss i e room, old ss i e i (omega arith), s) places
 
 -- ---- the lowest node whose row has a wrong sum
-first-append : {A : Type 0} (p : A → Bool) (j : ℕ) (xs ys : List A) → firstFrom j p (xs ++ ys) ≡ or_else (firstFrom j p xs) (firstFrom (j + length xs) p ys)
+first-append : {A : Type 0} (p : A → Bool) (j : ℕ) (xs ys : List A) → first_from j p (xs ++ ys) ≡ or_else (first_from j p xs) (first_from (j + length xs) p ys)
 first-append p j [] ys = let z : j + 0 ≡ j = omega arith in rw z
 first-append {A} p j (x ∷ xs) ys =
     let z : j + suc (length xs) ≡ suc j + length xs = omega arith in
-    rw z (go (p x) (firstFrom (suc j) p xs) (firstFrom (suc j + length xs) p ys) (first-append p (suc j) xs ys))
+    rw z (go (p x) (first_from (suc j) p xs) (first_from (suc j + length xs) p ys) (first-append p (suc j) xs ys))
   where
     go : (b : Bool) {q : Place} (r s : Place) → q ≡ or_else r s → cond b (at j) q ≡ or_else (cond b (at j) r) s
     go true r s e = refl
     go false r s e = e
 
-first-last : (p : ℕ → Bool) (k : ℕ) → first p (below (k + 1)) ≡ or_else (first p (below k)) (cond (p k) (at k) nowhere)
-first-last p k =
+first_last : (p : ℕ → Bool) (k : ℕ) → first p (below (k + 1)) ≡ or_else (first p (below k)) (cond (p k) (at k) nowhere)
+first_last p k =
     let z : 0 + length (below k) ≡ k = omega (arith, below_length k) in
     ap (first p) (ap below (add-one k) ∙ below_last k)
     ∙ first-append p 0 (below k) (k ∷ [])
     ∙ ap (λ (j : ℕ). or_else (first p (below k)) (cond (p k) (at j) nowhere)) z
 
-abbrev pub wrongRow : ℕ → ℕ → List ℕ → List ℕ → List ℕ → List ℕ → ℕ → Bool
-wrongRow d count fs ts ls xs i = not (eqb (total (λ m. m.fraction) (row_of i (held count fs ts ls xs))) (cond (eqb i d) 0 whole))
+abbrev pub wrong_row : ℕ → ℕ → List ℕ → List ℕ → List ℕ → List ℕ → ℕ → Bool
+wrong_row d count fs ts ls xs i = not (eqb (total (λ m. m.fraction) (row_of i (held count fs ts ls xs))) (cond (eqb i d) 0 whole))
 
 module _ {count i k e : ℕ} {fs : List ℕ} (r : Range count fs i k e) (d : ℕ) (ts ls xs : List ℕ) (room : count ≤ length xs) where
-  wrong-is : {sum : ℕ} → sum ≡ total (λ x. x) (part xs k e) → wrongSum sum i d ≡ cond (wrongRow d count fs ts ls xs i) (at i) nowhere
-  wrong-is s =
-      ap (λ (x : ℕ). wrongSum x i d) (s ∙ sym (range-sum r ts ls xs room))
+  wrong_is : {sum : ℕ} → sum ≡ total (λ x. x) (part xs k e) → wrong_sum sum i d ≡ cond (wrong_row d count fs ts ls xs i) (at i) nowhere
+  wrong_is s =
+      ap (λ (x : ℕ). wrong_sum x i d) (s ∙ sym (range_sum r ts ls xs room))
       ∙ turn (eqb (total (λ m. m.fraction) (row_of i (held count fs ts ls xs))) (cond (eqb i d) 0 whole))
     where
       turn : (b : Bool) → cond b nowhere (at i) ≡ cond (not b) (at i) nowhere
@@ -162,19 +162,19 @@ pub record Surveying (n d count : ℕ) (fs xs : List ℕ) (i k m : ℕ) (w : Fou
   pub rows : Rows i k fs ss
   pub flow : Flow i ss xs gs ps
   pub start : get_or ss i 0 ≡ k
-  pub flowStart : get_or gs i 0 ≡ m
+  pub flow_start : get_or gs i 0 ≡ m
   pub top : k ≤ count
-  pub flowTop : m ≤ k
+  pub flow_top : m ≤ k
   pub under : (j : ℕ) → j ≤ i → get_or gs j 0 ≤ m
   pub low : (j : ℕ) → j < k → get_or fs j 0 < i
   pub high : (j : ℕ) → k ≤ j → j < count → i ≤ get_or fs j 0
-  pub said : (ts ls : List ℕ) → foundSaid w ≡ first (wrongRow d count fs ts ls xs) (below i)
+  pub said : (ts ls : List ℕ) → found_said w ≡ first (wrong_row d count fs ts ls xs) (below i)
   pub sizes : (length ss ≡ 65) × (length gs ≡ 65) × (length ps ≡ 512)
 
 module _ {n d count : ℕ} {fs xs : List ℕ} where
-  pub surveying-none : (ss gs ps : List ℕ) → length ss ≡ 65 → length gs ≡ 65 → length ps ≡ 512
+  pub surveying_none : (ss gs ps : List ℕ) → length ss ≡ 65 → length gs ≡ 65 → length ps ≡ 512
       → Surveying n d count fs xs 0 0 0 Found.Nowhere (set ss 0 0) (set gs 0 0) ps
-  surveying-none ss gs ps a b c =
+  surveying_none ss gs ps a b c =
       let s : get_or (set ss 0 0) 0 0 ≡ 0 = get_or-set_same ss 0 0 0 (omega arith) in
       let g : get_or (set gs 0 0) 0 0 ≡ 0 = get_or-set_same gs 0 0 0 (omega arith) in
       record {
@@ -191,9 +191,9 @@ module _ {n d count : ℕ} {fs xs : List ℕ} where
           places = λ j l. absurd (omega arith);
         };
         start = s;
-        flowStart = g;
+        flow_start = g;
         top = omega arith;
-        flowTop = omega arith;
+        flow_top = omega arith;
         under = λ j l. let z : j ≡ 0 = omega arith in rw z (omega arith);
         low = λ j l. absurd (omega arith);
         high = λ j l o. omega arith;
@@ -202,21 +202,21 @@ module _ {n d count : ℕ} {fs xs : List ℕ} where
       }
 
   module _ {i k m : ℕ} {w : Found} {ss gs ps : List ℕ} (s : Surveying n d count fs xs i k m w ss gs ps) where
-    pub surveying-more : {r : RowHeld} {v : Found} {qs : List ℕ} → i < n → n ≤ 64 → count ≤ 512 → length xs ≡ 512 → Sorted n count fs
-        → RowSurveyed r i k m count fs xs ps qs → foundSaid v ≡ or_else (foundSaid w) (wrongSum r.sum.0 i d)
+    pub surveying_more : {r : RowHeld} {v : Found} {qs : List ℕ} → i < n → n ≤ 64 → count ≤ 512 → length xs ≡ 512 → Sorted n count fs
+        → RowSurveyed r i k m count fs xs ps qs → found_said v ≡ or_else (found_said w) (wrong_sum r.sum.0 i d)
         → Surveying n d count fs xs (i + 1) r.end r.filled v (set ss (i + 1) r.end) (set gs (i + 1) r.filled) qs
-    surveying-more {r} {v} {qs} h few all long sorted row e = record {
+    surveying_more {r} {v} {qs} h few all long sorted row e = record {
       within = omega arith;
       rows = rows_more s.rows s.start r.end (omega (arith, s.sizes.0)) t.rise s.low t.inside;
-      flow = flow-more r.end s.flow s.start s.flowStart s.under (omega (arith, s.sizes.0)) (omega (arith, s.sizes.1)) t.flowRise (omega (arith, t.flowTop, t.top)) t.kept t.places;
+      flow = flow-more r.end s.flow s.start s.flow_start s.under (omega (arith, s.sizes.0)) (omega (arith, s.sizes.1)) t.flow_rise (omega (arith, t.flow_top, t.top)) t.kept t.places;
       start = new ss i r.end (omega (arith, s.sizes.0));
-      flowStart = new gs i r.filled (omega (arith, s.sizes.1));
+      flow_start = new gs i r.filled (omega (arith, s.sizes.1));
       top = t.top;
-      flowTop = t.flowTop;
-      under = top-more gs i r.filled (omega (arith, s.sizes.1)) (omega arith) (λ j l. omega (arith, s.under j l, t.flowRise));
+      flow_top = t.flow_top;
+      under = top-more gs i r.filled (omega (arith, s.sizes.1)) (omega arith) (λ j l. omega (arith, s.under j l, t.flow_rise));
       low = λ j l. low j l (dec_lt j k);
       high = high;
-      said = λ ts ls. e ∙ ap₂ or_else (s.said ts ls) (wrong-is range d ts ls xs (omega arith) t.sums) ∙ sym (first-last (wrongRow d count fs ts ls xs) i);
+      said = λ ts ls. e ∙ ap₂ or_else (s.said ts ls) (wrong_is range d ts ls xs (omega arith) t.sums) ∙ sym (first_last (wrong_row d count fs ts ls xs) i);
       sizes = (length-set ss (i + 1) r.end ∙ s.sizes.0, length-set gs (i + 1) r.filled ∙ s.sizes.1, t.size);
     }
       where
@@ -243,14 +243,14 @@ module _ {n d count : ℕ} {fs xs : List ℕ} where
 
 module _ {count : ℕ} {fs xs : List ℕ} (h : HeadHeld) {i k m : ℕ} {w : Found} {ss gs ps : List ℕ}
     (s : Surveying h.nodes h.destination count fs xs i k m w ss gs ps) where
-  pub surveying-all : h.nodes ≤ i → Sorted h.nodes count fs → Surveyed w h count fs xs ss gs ps
-  surveying-all l sorted =
+  pub surveying_all : h.nodes ≤ i → Sorted h.nodes count fs → Surveyed w h count fs xs ss gs ps
+  surveying_all l sorted =
       let z : i ≡ h.nodes = omega (arith, s.within) in
       let y : k ≡ count = none_left (dec_lt k count) in
       record {
         rows = rw (z, y) at s.rows;
         flow = rw z at s.flow;
-        said = λ traffic ts ls. s.said ts ls ∙ ap (λ (j : ℕ). first (wrongRow h.destination count fs ts ls xs) (below j)) z;
+        said = λ traffic ts ls. s.said ts ls ∙ ap (λ (j : ℕ). first (wrong_row h.destination count fs ts ls xs) (below j)) z;
         sizes = s.sizes;
       }
     where

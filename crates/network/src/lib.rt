@@ -2,9 +2,9 @@
 ghost use Rattle.std.specs.Prelude.{◌≡◌, cond, ℕ, ◌≤◌, ◌<◌, length, get_or, ltb, eqb};
 ghost use Rattle.rules.specs.Lists.{bit, below, first};
 ghost use Rattle.rules.specs.Sheet.{whole};
-ghost use Rattle.sheet.specs.Held.{foundSaid};
+ghost use Rattle.sheet.specs.Held.{found_said};
 ghost use Rattle.network.specs.Rows.{Sorted};
-ghost use Rattle.network.specs.Answers.{RowSurveyed, or_else, wrongSum, Surveyed};
+ghost use Rattle.network.specs.Answers.{RowSurveyed, or_else, wrong_sum, Surveyed};
 
 use numbers::Fraction;
 use sheet::{Found, HeadHeld};
@@ -72,7 +72,7 @@ fn is_due(s: FractionSum, i: u8, destination: u8) -> bool
 
 // The lowest node with a wrong sum, once node i is judged too.
 fn first_wrong(before: Found, s: FractionSum, i: u8, destination: u8) -> Found
-    ensures { foundSaid result ≡ or_else (foundSaid before) (wrongSum s.0 i destination) }
+    ensures { found_said result ≡ or_else (found_said before) (wrong_sum s.0 i destination) }
 {
     match before {
         Found::At(k) => {

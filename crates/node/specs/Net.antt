@@ -1,24 +1,24 @@
 -- A sheet held in slices, row by row, and what the nodes have heard; the desk of each node.
 use Rattle.std.specs.Prelude.{ℕ, ◌+◌, ◌-◌, ◌*◌, ◌/◌, ◌≤◌, ◌<◌, ◌≡◌, List, map, length, get_or}
 use Rattle.rules.specs.Lists.{below}
-use Rattle.rules.specs.Sheet.{Sheet, largestDelay, lineDelay, largestStored}
+use Rattle.rules.specs.Sheet.{Sheet, largest_delay, line_delay, largest_stored}
 use Rattle.rules.specs.Desk.{Desk, message, new_row}
 use Rattle.rules.specs.Messages.{State}
 use Rattle.rules.proofs.Sound.{Sound}
 use Rattle.desk.specs.declared.Message.{Message}
-use Rattle.desk.specs.Ways.{toldOf, messageSaid, ways_of, deskWith, Row, Rises}
+use Rattle.desk.specs.Ways.{told_of, message_said, ways_of, desk_with, Row, Rises}
 use Rattle.sheet.specs.declared.SheetHeld.{SheetHeld}
-use Rattle.sheet.specs.Held.{sheetSaid}
+use Rattle.sheet.specs.Held.{sheet_said}
 use Rattle.links.specs.Opposites.{Opposites}
 use Rattle.network.specs.Rows.{part, Rows, Flow}
 
 -- node i's row of a list that stands link by link
-abbrev pub rowPart : List ℕ → List ℕ → ℕ → List ℕ
-rowPart ss xs i = part xs (get_or ss i 0) (get_or ss (i + 1) 0)
+abbrev pub row_part : List ℕ → List ℕ → ℕ → List ℕ
+row_part ss xs i = part xs (get_or ss i 0) (get_or ss (i + 1) 0)
 
 -- node i's desk: step, traffic; row starts, far nodes, lines, fractions, and in the inbox what each link's far node told
-abbrev pub rowDesk : ℕ → ℕ → List ℕ → List ℕ → List ℕ → List ℕ → List ℕ → ℕ → Desk
-rowDesk s t ss ts line xs inbox i = deskWith s t (ways_of (rowPart ss ts i) (rowPart ss line i) (rowPart ss xs i) (rowPart ss inbox i))
+abbrev pub row_desk : ℕ → ℕ → List ℕ → List ℕ → List ℕ → List ℕ → List ℕ → ℕ → Desk
+row_desk s t ss ts line xs inbox i = desk_with s t (ways_of (row_part ss ts i) (row_part ss line i) (row_part ss xs i) (row_part ss inbox i))
 
 -- node i's row can be lent to its desk
 pub record RowAt (i : ℕ) (ss gs ps line xs inbox : List ℕ) : Type 0 where
@@ -27,21 +27,21 @@ pub record RowAt (i : ℕ) (ss gs ps line xs inbox : List ℕ) : Type 0 where
   pub flow-starts : length gs ≡ 65
   pub rise : get_or ss i 0 ≤ get_or ss (i + 1) 0
   pub in_lines : get_or ss (i + 1) 0 ≤ length line
-  pub in-fractions : get_or ss (i + 1) 0 ≤ length xs
-  pub in-inbox : get_or ss (i + 1) 0 ≤ length inbox
+  pub in_fractions : get_or ss (i + 1) 0 ≤ length xs
+  pub in_inbox : get_or ss (i + 1) 0 ≤ length inbox
   pub flow-rise : get_or gs i 0 ≤ get_or gs (i + 1) 0
-  pub in-flow : get_or gs (i + 1) 0 ≤ length ps
-  pub row : Row (rowPart ss line i) (rowPart ss xs i) (rowPart ss inbox i) (rowPart gs ps i)
+  pub in_flow : get_or gs (i + 1) 0 ≤ length ps
+  pub row : Row (row_part ss line i) (row_part ss xs i) (row_part ss inbox i) (row_part gs ps i)
 
 -- the message is the one of node i's desk, whatever its far nodes are called
 pub record Tells (r : Message) (s t : ℕ) (ss line xs inbox : List ℕ) (i : ℕ) : Type 0 where
-  pub said : (ts : List ℕ) → get_or ss (i + 1) 0 ≤ length ts → messageSaid r ≡ message (rowDesk s t ss ts line xs inbox i)
-  pub small : r.delay.0 ≤ largestDelay
+  pub said : (ts : List ℕ) → get_or ss (i + 1) 0 ≤ length ts → message_said r ≡ message (row_desk s t ss ts line xs inbox i)
+  pub small : r.delay.0 ≤ largest_delay
 
 -- the far nodes of node i's row rise strictly
 pub record RowsRise (i : ℕ) (ss ts : List ℕ) : Type 0 where
   pub inside : get_or ss (i + 1) 0 ≤ length ts
-  pub rises : Rises (rowPart ss ts i)
+  pub rises : Rises (row_part ss ts i)
 
 -- a row taken anew: what stood elsewhere stays
 pub record RowTaken (ss : List ℕ) (i : ℕ) (xs new ys : List ℕ) : Type 0 where
@@ -51,8 +51,8 @@ pub record RowTaken (ss : List ℕ) (i : ℕ) (xs new ys : List ℕ) : Type 0 wh
   pub behind : (k : ℕ) → get_or ss (i + 1) 0 ≤ k → get_or ys k 0 ≡ get_or xs k 0
 
 -- what the slices say of the state: the message on link j stands in the inbox at j's opposite, in the row of the node that hears it
-abbrev pub stateSaid : ℕ → List ℕ → List ℕ → State
-stateSaid count os inbox = map (λ j. toldOf (get_or inbox (get_or os j 0) 0)) (below count)
+abbrev pub state_said : ℕ → List ℕ → List ℕ → State
+state_said count os inbox = map (λ j. told_of (get_or inbox (get_or os j 0) 0)) (below count)
 
 -- nothing was told yet
 pub record Empty (inbox : List ℕ) : Type 0 where
@@ -61,11 +61,11 @@ pub record Empty (inbox : List ℕ) : Type 0 where
 
 -- stored delays of at most 63 × 1,048,576
 abbrev pub SmallInbox : List ℕ → Type 0
-SmallInbox inbox = (k : ℕ) → get_or inbox k 0 / 4 ≤ largestStored
+SmallInbox inbox = (k : ℕ) → get_or inbox k 0 / 4 ≤ largest_stored
 
 -- the slices hold a sound sheet, its rows and each link's opposite
 pub record Graph (h : SheetHeld) (tr fs ts ls xs ss os : List ℕ) : Type 0 where
-  pub sound : Sound (sheetSaid h tr fs ts ls xs)
+  pub sound : Sound (sheet_said h tr fs ts ls xs)
   pub rows : Rows h.head.nodes h.links fs ss
   pub opposites : Opposites h.links fs ts os
   pub traffic-size : length tr ≡ 64
@@ -79,9 +79,9 @@ pub record Graph (h : SheetHeld) (tr fs ts ls xs ss os : List ℕ) : Type 0 wher
 pub record Net (h : SheetHeld) (tr fs ts ls xs ss gs ps os line : List ℕ) : Type 0 where
   pub graph : Graph h tr fs ts ls xs ss os
   pub flow : Flow h.head.nodes ss xs gs ps
-  pub line-right : (j : ℕ) → j < h.links → get_or line j 0 ≡ lineDelay (get_or ls j 0)
+  pub line-right : (j : ℕ) → j < h.links → get_or line j 0 ≡ line_delay (get_or ls j 0)
   pub line_small : (j : ℕ) → get_or line j 0 ≤ 1048576
-  pub flow-start-size : length gs ≡ 65
+  pub flow-start_size : length gs ≡ 65
   pub flow-size : length ps ≡ 512
   pub line-size : length line ≡ 512
 
@@ -94,4 +94,4 @@ pub record Lendable (n : ℕ) (tr ss gs ps line xs inbox : List ℕ) : Type 0 wh
 pub record Renewed (s n : ℕ) (tr ss ts line xs inbox ys : List ℕ) : Type 0 where
   pub long : length ys ≡ length xs
   pub rows : (i p : ℕ) → i < n → p < get_or ss (i + 1) 0 - get_or ss i 0
-      → get_or ys (get_or ss i 0 + p) 0 ≡ get_or (new_row (rowDesk s (get_or tr i 0) ss ts line xs inbox i)) p 0
+      → get_or ys (get_or ss i 0 + p) 0 ≡ get_or (new_row (row_desk s (get_or tr i 0) ss ts line xs inbox i)) p 0

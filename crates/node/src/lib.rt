@@ -1,10 +1,10 @@
 // A node at its desk: its row is lent to crates/desk as parts of the slices that hold the sheet, and nothing else of them.
 // The calculation and the messages both go through these functions.
 ghost use Rattle.std.specs.Prelude.{◌≡◌, List, ℕ, ◌+◌, ◌≤◌, ◌<◌, length, get_or};
-ghost use Rattle.rules.specs.Sheet.{largestStep, largestDelay};
+ghost use Rattle.rules.specs.Sheet.{largest_step, largest_delay};
 ghost use Rattle.rules.specs.Desk.{message, new_row};
-ghost use Rattle.desk.specs.Ways.{messageSaid};
-ghost use Rattle.node.specs.Net.{rowDesk, RowAt, Tells, RowsRise, RowTaken, Lendable, Renewed};
+ghost use Rattle.desk.specs.Ways.{message_said};
+ghost use Rattle.node.specs.Net.{row_desk, RowAt, Tells, RowsRise, RowTaken, Lendable, Renewed};
 
 use desk::Message;
 use numbers::{Step, Traffic};
@@ -21,7 +21,7 @@ pub fn message_of(
     fraction: &[u32],
     inbox: &[u32],
 ) -> Message
-    requires { RowAt i starts.now flow_starts.now flow.now line.now fraction.now inbox.now × (s.0 ≤ largestStep) }
+    requires { RowAt i starts.now flow_starts.now flow.now line.now fraction.now inbox.now × (s.0 ≤ largest_step) }
     ensures { Tells result s.0 t.0 starts.now line.now fraction.now inbox.now i }
 {
     let k = i as usize;
@@ -51,9 +51,9 @@ fn take_row(
     inbox: &[u32],
     fraction: &mut [u32],
 )
-    requires { RowAt i starts.now flow_starts.now flow.now line.now fraction.old inbox.now × (s.0 ≤ largestStep) }
+    requires { RowAt i starts.now flow_starts.now flow.now line.now fraction.old inbox.now × (s.0 ≤ largest_step) }
     ensures { (ts : List ℕ) → RowsRise i starts.now ts
-        → RowTaken starts.now i fraction.old (new_row (rowDesk s.0 t.0 starts.now ts line.now fraction.old inbox.now i)) fraction.new }
+        → RowTaken starts.now i fraction.old (new_row (row_desk s.0 t.0 starts.now ts line.now fraction.old inbox.now i)) fraction.new }
 {
     let k = i as usize;
     let a = starts[k] as usize;
@@ -82,7 +82,7 @@ pub fn take_rows(
     inbox: &[u32],
     fraction: &mut [u32],
 )
-    requires { Lendable n traffic.now starts.now flow_starts.now flow.now line.now fraction.old inbox.now × (s.0 ≤ largestStep) }
+    requires { Lendable n traffic.now starts.now flow_starts.now flow.now line.now fraction.old inbox.now × (s.0 ≤ largest_step) }
     ensures { (ts : List ℕ) → ((i : ℕ) → i < n → RowsRise i starts.now ts)
         → Renewed s.0 n traffic.now starts.now ts line.now fraction.old inbox.now fraction.new }
 {

@@ -1,7 +1,7 @@
 // The kinds of number: a fraction, a delay, a traffic figure and a step, each a type of its own with its bound.
 ghost use Rattle.std.specs.Prelude.{◌≡◌, ◌≤◌, length};
-ghost use Rattle.rules.specs.Sheet.{lineDelay};
-ghost use Rattle.numbers.specs.Kinds.{fractionOf, step_of, delayOf};
+ghost use Rattle.rules.specs.Sheet.{line_delay};
+ghost use Rattle.numbers.specs.Kinds.{fraction_of, step_of, delay_of};
 ghost use Rattle.numbers.specs.Lines.{Table, LinesOf};
 
 // A share of a node's traffic, in units of 1 / 65,536.
@@ -42,7 +42,7 @@ impl Fraction {
     pub const WHOLE: Fraction = Fraction(65536);
 
     pub fn new(x: u32) -> FractionRead
-        ensures { result ≡ fractionOf x }
+        ensures { result ≡ fraction_of x }
     {
         if x <= Fraction::WHOLE.0 {
             FractionRead::Good(Fraction(x))
@@ -71,7 +71,7 @@ impl Delay {
     pub const LARGEST: Delay = Delay(67108864);
 
     pub fn new(x: u32) -> DelayRead
-        ensures { result ≡ delayOf x }
+        ensures { result ≡ delay_of x }
     {
         if x <= Delay::LARGEST.0 {
             DelayRead::Good(Delay(x))
@@ -100,7 +100,7 @@ const LINE_DELAYS: [u32; 256] = [
 // D' at a load step, from the table, which a caller keeps in a local and lends: indexing the constant would build it anew each time.
 pub fn line_delay(table: &[u32], load: u8) -> Delay
     requires { Table table.now }
-    ensures { result.0 ≡ lineDelay load }
+    ensures { result.0 ≡ line_delay load }
 {
     let k = load as usize;
     Delay(table[k])

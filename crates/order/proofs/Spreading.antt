@@ -14,8 +14,8 @@ use borrow.Author.Tests.{lt-ltb, eqb-true, not-true}
 use Rattle.rules.specs.Lists.{bit}
 use Rattle.rules.specs.Sheet.{Sheet}
 use Rattle.rules.specs.Loop.{Leads, marked}
-use Rattle.rules.proofs.Tests.{known, clash, and-gives, or-gives}
-use Rattle.rules.proofs.Marks.{marks, marks-le, fewer}
+use Rattle.rules.proofs.Tests.{known, clash, and_gives, or_gives}
+use Rattle.rules.proofs.Marks.{marks, marks_le, fewer}
 use Rattle.rules.proofs.Walk.{led-from, led_on}
 use Rattle.sheet.specs.Held.{held_at, held}
 use Rattle.order.specs.Inside.{AllLed, Closed, Spread}
@@ -40,14 +40,14 @@ module _ {count : ℕ} {fs ts xs : List ℕ} {i : ℕ} {old : List Bool} where
   spread_none = record { size = refl; led = λ w. w; more = λ e. clash e refl; rest = λ e. (refl, λ k l. absurd (omega arith)) }
 
   module _ {grew : Bool} {j : ℕ} {r : List Bool} (h : Spread grew count j fs ts xs i old r) where
-    spread-mark : j < count → get_or ts j 0 < length r → leads fs ts xs i r j ≡ true → Spread true count (j + 1) fs ts xs i old (set r (get_or ts j 0) true)
-    spread-mark l inside e =
-        let p = and-gives (ltb 0 (get_or xs j 0)) ((eqb (get_or fs j 0) i || marked r (get_or fs j 0)) && not (marked r (get_or ts j 0))) e in
-        let q = and-gives (eqb (get_or fs j 0) i || marked r (get_or fs j 0)) (not (marked r (get_or ts j 0))) p.1 in
+    spread_mark : j < count → get_or ts j 0 < length r → leads fs ts xs i r j ≡ true → Spread true count (j + 1) fs ts xs i old (set r (get_or ts j 0) true)
+    spread_mark l inside e =
+        let p = and_gives (ltb 0 (get_or xs j 0)) ((eqb (get_or fs j 0) i || marked r (get_or fs j 0)) && not (marked r (get_or ts j 0))) e in
+        let q = and_gives (eqb (get_or fs j 0) i || marked r (get_or fs j 0)) (not (marked r (get_or ts j 0))) p.1 in
         let up = set_more r (get_or ts j 0) inside (not-true (marked r (get_or ts j 0)) q.1) in
         record {
           size = length-set r (get_or ts j 0) true ∙ h.size;
-          led = λ w ls. on-from ls p.0 (or-gives (eqb (get_or fs j 0) i) (marked r (get_or fs j 0)) q.0) (h.led w ls);
+          led = λ w ls. on_from ls p.0 (or_gives (eqb (get_or fs j 0) i) (marked r (get_or fs j 0)) q.0) (h.led w ls);
           more = λ t. grown up (known grew);
           rest = λ t. clash refl t;
         }
@@ -56,17 +56,17 @@ module _ {count : ℕ} {fs ts xs : List ℕ} {i : ℕ} {old : List Bool} where
         net : List ℕ → Sheet
         net ls = record { nodes = 0; destination = 0; step = 0; traffic = []; links = held count fs ts ls xs }
 
-        on-from : (ls : List ℕ) → ltb 0 (get_or xs j 0) ≡ true → (eqb (get_or fs j 0) i ≡ true) ⊎ (marked r (get_or fs j 0) ≡ true)
+        on_from : (ls : List ℕ) → ltb 0 (get_or xs j 0) ≡ true → (eqb (get_or fs j 0) i ≡ true) ⊎ (marked r (get_or fs j 0) ≡ true)
             → ((k : ℕ) → marked r k ≡ true → Leads (held count fs ts ls xs) i k) → (k : ℕ) → marked (set r (get_or ts j 0) true) k ≡ true → Leads (held count fs ts ls xs) i k
-        on-from ls f (inl a) w = led-from (net ls) i r (held_at fs ts ls xs j) (held_in count fs ts ls xs j l) f w (eqb-true (get_or fs j 0) i a)
-        on-from ls f (inr a) w = led_on (net ls) i r (held_at fs ts ls xs j) (held_in count fs ts ls xs j l) f w a
+        on_from ls f (inl a) w = led-from (net ls) i r (held_at fs ts ls xs j) (held_in count fs ts ls xs j l) f w (eqb-true (get_or fs j 0) i a)
+        on_from ls f (inr a) w = led_on (net ls) i r (held_at fs ts ls xs j) (held_in count fs ts ls xs j l) f w a
 
         grown : marks r < marks (set r (get_or ts j 0) true) → (grew ≡ true) ⊎ (grew ≡ false) → marks old < marks (set r (get_or ts j 0) true)
         grown up (inl t) = omega (arith, h.more t)
         grown up (inr f) = omega (arith, ap marks (h.rest f).0)
 
-    spread-skip : leads fs ts xs i r j ≡ false → Spread grew count (j + 1) fs ts xs i old r
-    spread-skip e = record {
+    spread_skip : leads fs ts xs i r j ≡ false → Spread grew count (j + 1) fs ts xs i old r
+    spread_skip e = record {
       size = h.size;
       led = h.led;
       more = h.more;
@@ -79,18 +79,18 @@ module _ {count : ℕ} {fs ts xs : List ℕ} {i : ℕ} {old : List Bool} where
 
     -- as the code has it: what was told of link j, and what it left
     module _ {told g : Bool} {m : List Bool} (e : told ≡ leads fs ts xs i r j) where
-      pub spread-taken : j < count → get_or ts j 0 < length r → told ≡ true → m ≡ set r (get_or ts j 0) true → g ≡ true → Spread g count (j + 1) fs ts xs i old m
-      spread-taken l inside t p q =
+      pub spread_taken : j < count → get_or ts j 0 < length r → told ≡ true → m ≡ set r (get_or ts j 0) true → g ≡ true → Spread g count (j + 1) fs ts xs i old m
+      spread_taken l inside t p q =
           subst (λ (b : Bool). Spread b count (j + 1) fs ts xs i old m) (sym q)
-          (subst (λ (u : List Bool). Spread true count (j + 1) fs ts xs i old u) (sym p) (spread-mark l inside (sym e ∙ t)))
+          (subst (λ (u : List Bool). Spread true count (j + 1) fs ts xs i old u) (sym p) (spread_mark l inside (sym e ∙ t)))
 
-      pub spread-left : told ≡ false → m ≡ r → g ≡ grew → Spread g count (j + 1) fs ts xs i old m
-      spread-left t p q =
+      pub spread_left : told ≡ false → m ≡ r → g ≡ grew → Spread g count (j + 1) fs ts xs i old m
+      spread_left t p q =
           subst (λ (b : Bool). Spread b count (j + 1) fs ts xs i old m) (sym q)
-          (subst (λ (u : List Bool). Spread grew count (j + 1) fs ts xs i old u) (sym p) (spread-skip (sym e ∙ t)))
+          (subst (λ (u : List Bool). Spread grew count (j + 1) fs ts xs i old u) (sym p) (spread_skip (sym e ∙ t)))
 
-    pub spread-all : count ≤ j → Spread grew count count fs ts xs i old r
-    spread-all l = record { size = h.size; led = h.led; more = h.more; rest = λ e. ((h.rest e).0, λ k q. (h.rest e).1 k (omega arith)) }
+    pub spread_all : count ≤ j → Spread grew count count fs ts xs i old r
+    spread_all l = record { size = h.size; led = h.led; more = h.more; rest = λ e. ((h.rest e).0, λ k q. (h.rest e).1 k (omega arith)) }
 
 -- ---- pass after pass
 pub record Resting (grew : Bool) (count : ℕ) (fs ts xs : List ℕ) (i : ℕ) (r : List Bool) : Type 0 where
@@ -99,20 +99,20 @@ pub record Resting (grew : Bool) (count : ℕ) (fs ts xs : List ℕ) (i : ℕ) (
   pub closed : grew ≡ false → Closed count fs ts xs i r
 
 module _ {count : ℕ} {fs ts xs : List ℕ} {i : ℕ} where
-  pub resting-none : Resting true count fs ts xs i (replicate 64 false)
-  resting-none = record { size = refl; led = λ ls j t. clash t (go (dec_lt j 64)); closed = λ e. clash refl e }
+  pub resting_none : Resting true count fs ts xs i (replicate 64 false)
+  resting_none = record { size = refl; led = λ ls j t. clash t (go (dec_lt j 64)); closed = λ e. clash refl e }
     where
       go : {j : ℕ} → Dec (j < 64) → marked (replicate 64 false) j ≡ false
       go {j} (yes l) = get_or-replicate 64 j false false l
       go {j} (no l) = get_or-eq_default (replicate 64 false) false {n = j} (omega arith)
 
   module _ {grew : Bool} {old r : List Bool} (s : Spread grew count count fs ts xs i old r) where
-    pub resting-more : {g : Bool} → Resting g count fs ts xs i old → Resting grew count fs ts xs i r
-    resting-more h = record { size = s.size ∙ h.size; led = s.led h.led; closed = λ e. (s.rest e).1 }
+    pub resting_more : {g : Bool} → Resting g count fs ts xs i old → Resting grew count fs ts xs i r
+    resting_more h = record { size = s.size ∙ h.size; led = s.led h.led; closed = λ e. (s.rest e).1 }
 
-    pub resting-less : length old ≡ 64 → bit grew + (64 - marks r) < bit true + (64 - marks old)
-    resting-less h = go grew refl
+    pub resting_less : length old ≡ 64 → bit grew + (64 - marks r) < bit true + (64 - marks old)
+    resting_less h = go grew refl
       where
         go : (b : Bool) → grew ≡ b → bit b + (64 - marks r) < bit true + (64 - marks old)
-        go true e = omega (arith, s.more e, marks-le r, s.size)
+        go true e = omega (arith, s.more e, marks_le r, s.size)
         go false e = omega (arith, ap marks (s.rest e).0)

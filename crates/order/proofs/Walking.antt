@@ -17,8 +17,8 @@ pub record Walking (n : ℕ) (ord turn path : List ℕ) (deep b done step : ℕ)
   pub long : length path ≡ 128
   pub low : (k : ℕ) → get_or path k 0 ≤ 64
 
-zeros-low : (k : ℕ) → get_or (replicate 128 0) k 0 ≤ 64
-zeros-low k = go (dec_lt k 128)
+zeros_low : (k : ℕ) → get_or (replicate 128 0) k 0 ≤ 64
+zeros_low k = go (dec_lt k 128)
   where
     go : Dec (k < 128) → get_or (replicate 128 0) k 0 ≤ 64
     go (yes l) = omega (arith, get_or-replicate {A = ℕ} 128 k 0 0 l)
@@ -31,15 +31,15 @@ set-low l i v h q low k = go (ℕ_discrete k i)
     go (yes e) = omega (arith, ap (λ (j : ℕ). get_or (set l i v) j 0) e, get_or-set_same l i v 0 h)
     go (no e) = omega (arith, get_or-set_other l i k v 0 e, low k)
 
-pub walking-none : {n : ℕ} {ord turn : List ℕ} → length ord ≡ 64 → length turn ≡ 64 → Walking n ord turn (replicate 128 0) 0 64 0 0
-walking-none o t = record { steps = refl; within = omega arith; node = omega arith; order = o; turns = t; long = refl; low = zeros-low }
+pub walking_none : {n : ℕ} {ord turn : List ℕ} → length ord ≡ 64 → length turn ≡ 64 → Walking n ord turn (replicate 128 0) 0 64 0 0
+walking_none o t = record { steps = refl; within = omega arith; node = omega arith; order = o; turns = t; long = refl; low = zeros_low }
 
 module _ {n : ℕ} {ord turn path : List ℕ} {deep b done step : ℕ} (w : Walking n ord turn path deep b done step) (few : n ≤ 64) (more : step < 2 * n)
     {ord' turn' path' : List ℕ} {deep' b' done' : ℕ} where
   -- back from node b, which is noted
-  pub walking-back : (deep ≡ 0 → ⊥) → ord' ≡ set ord done b → turn' ≡ set turn b done → path' ≡ path → deep' ≡ deep - 1 → b' ≡ get_or path (deep - 1) 0
+  pub walking_back : (deep ≡ 0 → ⊥) → ord' ≡ set ord done b → turn' ≡ set turn b done → path' ≡ path → deep' ≡ deep - 1 → b' ≡ get_or path (deep - 1) 0
       → done' ≡ done + 1 → Walking n ord' turn' path' deep' b' done' (step + 1)
-  walking-back z o t p d e q = record {
+  walking_back z o t p d e q = record {
     steps = omega (arith, w.steps);
     within = omega arith;
     node = omega (arith, w.low (deep - 1));

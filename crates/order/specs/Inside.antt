@@ -1,6 +1,6 @@
 -- What the functions inside tell one another: rows by their flowing places, nodes that are taken one by one, and marks that spread.
 use Rattle.std.specs.Prelude.{ℕ, ◌+◌, ◌≤◌, ◌<◌, ◌≡◌, Bool, true, false, ◌||◌, List, length, get_or, set, eqb}
-use Rattle.rules.specs.Lists.{howMany}
+use Rattle.rules.specs.Lists.{how_many}
 use Rattle.rules.specs.Loop.{Leads, marked}
 use Rattle.sheet.specs.Held.{held}
 use Rattle.network.specs.Rows.{part}
@@ -41,7 +41,7 @@ RowsFall n ss gs ps ts turn =
 
 pub record Tested (n : ℕ) (ss gs ps ts ord turn : List ℕ) : Type 0 where
   pub node : Inverse n ord turn
-  pub turn-of : Inverse n turn ord
+  pub turn_of : Inverse n turn ord
   pub falls : RowsFall n ss gs ps ts turn
 
 -- ---- an order so far: the nodes in the first `tail` turns are taken
@@ -49,7 +49,7 @@ pub record Peeled (n count : ℕ) (fs ts xs ord turn : List ℕ) (tail : ℕ) : 
   pub order : length ord ≡ 64
   pub turns : length turn ≡ 64
   pub node : Inverse n ord turn
-  pub turn-of : Inverse n turn ord
+  pub turn_of : Inverse n turn ord
   pub within : tail ≤ n
   pub falls : (j : ℕ) → j < count → 0 < get_or xs j 0 → get_or turn (get_or fs j 0) 0 < tail → get_or turn (get_or ts j 0) 0 < get_or turn (get_or fs j 0) 0
 
@@ -95,5 +95,5 @@ Closed j fs ts xs i r =
 pub record Spread (grew : Bool) (count j : ℕ) (fs ts xs : List ℕ) (i : ℕ) (old r : List Bool) : Type 0 where
   pub size : length r ≡ length old
   pub led : AllLed count fs ts xs i old → AllLed count fs ts xs i r
-  pub more : grew ≡ true → howMany (λ b. b) old < howMany (λ b. b) r
+  pub more : grew ≡ true → how_many (λ b. b) old < how_many (λ b. b) r
   pub rest : grew ≡ false → (r ≡ old) × Closed j fs ts xs i r

@@ -2,9 +2,9 @@
 use Rattle.std.specs.Prelude.{ℕ, ◌≤◌, ◌<◌, ◌≡◌, List, length, get_or}
 use Rattle.rules.specs.Lists.{below, nowhere, first}
 use Rattle.rules.specs.Sheet.{Sheet}
-use Rattle.rules.specs.Loop.{onLoop}
-use Rattle.rules.specs.Check.{sheetWith}
-use Rattle.sheet.specs.Held.{headSaid, held, foundSaid}
+use Rattle.rules.specs.Loop.{on_loop}
+use Rattle.rules.specs.Check.{sheet_with}
+use Rattle.sheet.specs.Held.{head_said, held, found_said}
 use Rattle.sheet.specs.declared.HeadHeld.{HeadHeld}
 use Rattle.sheet.specs.declared.Found.{Found}
 use Rattle.network.specs.Rows.{Rows, Flow}
@@ -39,16 +39,16 @@ Falling count fs ts xs turn = (j : ℕ) → j < count → 0 < get_or xs j 0 → 
 
 pub record Order (n count : ℕ) (fs ts xs ord turn : List ℕ) : Type 0 where
   pub node : (k : ℕ) → k < n → get_or ord k 0 < n
-  pub turn-of : Inverse n turn ord
-  pub of-turn : (k : ℕ) → k < n → get_or turn (get_or ord k 0) 0 ≡ k
+  pub turn_of : Inverse n turn ord
+  pub of_turn : (k : ℕ) → k < n → get_or turn (get_or ord k 0) 0 ≡ k
   pub falls : Falling count fs ts xs turn
 
 -- the sheet that the slices hold: the traffic and the load steps play no part
-abbrev pub sheetOf : HeadHeld → ℕ → List ℕ → List ℕ → List ℕ → List ℕ → List ℕ → Sheet
-sheetOf h count fs ts xs traffic ls = sheetWith (headSaid h) traffic (held count fs ts ls xs)
+abbrev pub sheet_of : HeadHeld → ℕ → List ℕ → List ℕ → List ℕ → List ℕ → List ℕ → Sheet
+sheet_of h count fs ts xs traffic ls = sheet_with (head_said h) traffic (held count fs ts ls xs)
 
 -- 8's place; and where there is none, the order
 pub record OrderGiven (r : Found) (h : HeadHeld) (count : ℕ) (fs ts xs ord turn : List ℕ) : Type 0 where
-  pub said : (traffic ls : List ℕ) → foundSaid r ≡ first (onLoop (sheetOf h count fs ts xs traffic ls)) (below h.nodes)
-  pub sorted : foundSaid r ≡ nowhere → Order h.nodes count fs ts xs ord turn
+  pub said : (traffic ls : List ℕ) → found_said r ≡ first (on_loop (sheet_of h count fs ts xs traffic ls)) (below h.nodes)
+  pub sorted : found_said r ≡ nowhere → Order h.nodes count fs ts xs ord turn
   pub sizes : (length ord ≡ 64) × (length turn ≡ 64)

@@ -2,9 +2,9 @@
 // An order is guessed and tested; only where the test fails is it looked for exactly.
 ghost use Rattle.std.specs.Prelude.{◌≡◌, true, ◌&&◌, ◌||◌, not, List, ℕ, ◌≤◌, ◌<◌, length, get_or, ltb, leb, eqb};
 ghost use Rattle.rules.specs.Lists.{below, first};
-ghost use Rattle.rules.specs.Loop.{onLoop};
-ghost use Rattle.sheet.specs.Held.{foundSaid};
-ghost use Rattle.order.specs.Order.{Links, Graph, Inverse, sheetOf, OrderGiven};
+ghost use Rattle.rules.specs.Loop.{on_loop};
+ghost use Rattle.sheet.specs.Held.{found_said};
+ghost use Rattle.order.specs.Order.{Links, Graph, Inverse, sheet_of, OrderGiven};
 ghost use Rattle.order.specs.Inside.{RowFlow, Rowed, RowFalls, RowsFall, Tested, BareTold, NextBare, Swapped, PeeledOut, Spread};
 
 use sheet::{Found, HeadHeld};
@@ -325,7 +325,7 @@ fn spread(i: u8, count: usize, from: &[u8], to: &[u8], fraction: &[u32], marks: 
 // Does a way lead from node i back to it? The node itself has no mark before a link leads to it.
 fn is_on_loop(h: HeadHeld, i: u8, count: usize, from: &[u8], to: &[u8], fraction: &[u32]) -> bool
     requires { Links h.nodes count from.now to.now fraction.now × (i < h.nodes) }
-    ensures { (traffic ls : List ℕ) → result ≡ onLoop (sheetOf h count from.now to.now fraction.now traffic ls) i }
+    ensures { (traffic ls : List ℕ) → result ≡ on_loop (sheet_of h count from.now to.now fraction.now traffic ls) i }
 {
     let mut marks = [false; 64];
     let mut grew = true;
@@ -338,7 +338,7 @@ fn is_on_loop(h: HeadHeld, i: u8, count: usize, from: &[u8], to: &[u8], fraction
 
 fn find_loop(h: HeadHeld, count: usize, from: &[u8], to: &[u8], fraction: &[u32]) -> Found
     requires { Links h.nodes count from.now to.now fraction.now }
-    ensures { (traffic ls : List ℕ) → foundSaid result ≡ first (onLoop (sheetOf h count from.now to.now fraction.now traffic ls)) (below h.nodes) }
+    ensures { (traffic ls : List ℕ) → found_said result ≡ first (on_loop (sheet_of h count from.now to.now fraction.now traffic ls)) (below h.nodes) }
 {
     let n = h.nodes;
     let mut i: u8 = 0;

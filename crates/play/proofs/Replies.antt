@@ -7,22 +7,22 @@ use borrow.Author.Tests.{le-ltb}
 use Rattle.rules.specs.Sheet.{Sheet}
 use Rattle.rules.specs.Judge.{accepted}
 use Rattle.rules.specs.Check.{check}
-use Rattle.rules.specs.Calls.{playReply, frameReply}
-use Rattle.rules.proofs.Reading.{check-holds}
+use Rattle.rules.specs.Calls.{play_reply, frame_reply}
+use Rattle.rules.proofs.Reading.{check_holds}
 use Rattle.sheet.specs.declared.SheetHeld.{SheetHeld}
-use Rattle.sheet.specs.Held.{sheetSaid}
+use Rattle.sheet.specs.Held.{sheet_said}
 use Rattle.admit.specs.Opened.{Ready}
 use Rattle.play.specs.Replies.{played, framed}
 
 module _ {h : SheetHeld} {b tr fs ts ls xs ss gs ps os ord turn : List ℕ} (ready : Ready h b tr fs ts ls xs ss gs ps os ord turn) where
   abbrev s : Sheet
-  s = sheetSaid h tr fs ts ls xs
+  s = sheet_said h tr fs ts ls xs
 
   ready-check : check b ≡ accepted s
-  ready-check = subst (λ (x : List ℕ). check x ≡ accepted s) ready.stand (check-holds s ready.graph.sound)
+  ready-check = subst (λ (x : List ℕ). check x ≡ accepted s) ready.stand (check_holds s ready.graph.sound)
 
-  pub play-reply : (js : List ℕ) (have : ℕ) → length b ≤ have → playReply b js have ≡ played s js
-  play-reply js have room = rw (ready-check, le-ltb have (length b) room)
+  pub play_reply_lem : (js : List ℕ) (have : ℕ) → length b ≤ have → play_reply b js have ≡ played s js
+  play_reply_lem js have room = rw (ready-check, le-ltb have (length b) room)
 
-  pub frame-reply : (js : List ℕ) (have : ℕ) → 6 * h.head.nodes ≤ have → frameReply b js have ≡ framed s js
-  frame-reply js have room = rw (ready-check, le-ltb have (6 * h.head.nodes) room)
+  pub frame_reply_lem : (js : List ℕ) (have : ℕ) → 6 * h.head.nodes ≤ have → frame_reply b js have ≡ framed s js
+  frame_reply_lem js have room = rw (ready-check, le-ltb have (6 * h.head.nodes) room)

@@ -1,15 +1,15 @@
 -- A list run over an accepted sheet in the slices, and what Play and Frame make of what it leaves.
 use Rattle.std.specs.Prelude.{ℕ, ◌≤◌, ◌≡◌, List, length}
-use Rattle.rules.specs.Sheet.{largestStep}
+use Rattle.rules.specs.Sheet.{largest_step}
 use Rattle.rules.specs.Bytes.{bytes}
 use Rattle.sheet.specs.declared.SheetHeld.{SheetHeld}
-use Rattle.sheet.specs.Held.{sheetSaid, WriteAsked}
-use Rattle.node.specs.Net.{stateSaid, Net, Lendable}
+use Rattle.sheet.specs.Held.{sheet_said, WriteAsked}
+use Rattle.node.specs.Net.{state_said, Net, Lendable}
 use Rattle.messages.specs.declared.Ran.{Ran}
 use Rattle.messages.specs.Round.{ListRun}
 use Rattle.admit.specs.Opened.{Ready}
 use Rattle.play.specs.declared.Said.{Said}
-use Rattle.play.specs.Replies.{playedFrom, played, framed, Replied}
+use Rattle.play.specs.Replies.{played_from, played, framed, Replied}
 
 -- far nodes and the order of the nodes are not among the slices: there are such
 pub record Accepted (h : SheetHeld) (b tr fs ls xs ss gs ps os : List ℕ) : Type 0 where
@@ -30,18 +30,18 @@ pub record Lined (r : Ran) (h : SheetHeld) (js tr fs ls xs ss gs ps os line inbo
 -- every row can be lent to its desk, and there is room for the sheet
 pub record Takable (h : SheetHeld) (b tr ss gs ps line inbox xs out : List ℕ) : Type 0 where
   pub rows : Lendable h.head.nodes tr ss gs ps line xs inbox
-  pub step : h.head.step.0 ≤ largestStep
+  pub step : h.head.step.0 ≤ largest_step
   pub asked : WriteAsked h.head h.links b xs out
 
 -- Play's end in the state that the slices keep, of the one sheet that they hold
 pub record Ended (r : Said) (h : SheetHeld) (b js tr ss gs ps line inbox xs old new : List ℕ) : Type 0 where
-  pub said : {fs ts ls os : List ℕ} → Net h tr fs ts ls xs ss gs ps os line → length inbox ≡ 512 → bytes (sheetSaid h tr fs ts ls xs) ≡ b
-      → Replied r (playedFrom (sheetSaid h tr fs ts ls xs) js (stateSaid h.links os inbox)) old new
+  pub said : {fs ts ls os : List ℕ} → Net h tr fs ts ls xs ss gs ps os line → length inbox ≡ 512 → bytes (sheet_said h tr fs ts ls xs) ≡ b
+      → Replied r (played_from (sheet_said h tr fs ts ls xs) js (state_said h.links os inbox)) old new
 
 -- Play's answer and output, of the one sheet that the slices hold
 pub record Played (r : Said) (h : SheetHeld) (b js tr fs ls xs ss gs ps os old new : List ℕ) : Type 0 where
-  pub said : {ts ord turn : List ℕ} → Ready h b tr fs ts ls xs ss gs ps os ord turn → Replied r (played (sheetSaid h tr fs ts ls xs) js) old new
+  pub said : {ts ord turn : List ℕ} → Ready h b tr fs ts ls xs ss gs ps os ord turn → Replied r (played (sheet_said h tr fs ts ls xs) js) old new
 
 -- Frame's, whatever its bytes are
 pub record Framed (r : Said) (h : SheetHeld) (js tr fs ls xs ss gs ps os old new : List ℕ) : Type 0 where
-  pub said : {b ts ord turn : List ℕ} → Ready h b tr fs ts ls xs ss gs ps os ord turn → Replied r (framed (sheetSaid h tr fs ts ls xs) js) old new
+  pub said : {b ts ord turn : List ℕ} → Ready h b tr fs ts ls xs ss gs ps os ord turn → Replied r (framed (sheet_said h tr fs ts ls xs) js) old new

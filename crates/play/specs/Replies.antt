@@ -4,22 +4,22 @@ use Rattle.rules.specs.Lists.{below}
 use Rattle.rules.specs.Sheet.{Sheet}
 use Rattle.rules.specs.Bytes.{bytes}
 use Rattle.rules.specs.Messages.{State, run, outcome}
-use Rattle.rules.specs.Calls.{Reply, refusal, answer, writes, over, afterList, framesOf}
+use Rattle.rules.specs.Calls.{Reply, refusal, answer, writes, over, after_list, frames_of}
 use Rattle.play.specs.declared.Said.{Said}
 
 -- 11, or the sheet that the state gives
-abbrev pub playedFrom : Sheet → List ℕ → State → Reply
-playedFrom s js st = cond (ltb (length js) (length s.links)) (refusal 11 (length js)) (writes (bytes (outcome s st)))
+abbrev pub played_from : Sheet → List ℕ → State → Reply
+played_from s js st = cond (ltb (length js) (length s.links)) (refusal 11 (length js)) (writes (bytes (outcome s st)))
 
 abbrev pub played : Sheet → List ℕ → Reply
-played s js = afterList (run s js) (playedFrom s js)
+played s js = after_list (run s js) (played_from s js)
 
 -- every node's frame in the state
-abbrev pub framedFrom : Sheet → State → Reply
-framedFrom s st = writes (framesOf s st (below s.nodes))
+abbrev pub framed_from : Sheet → State → Reply
+framed_from s st = writes (frames_of s st (below s.nodes))
 
 abbrev pub framed : Sheet → List ℕ → Reply
-framed s js = afterList (run s js) (framedFrom s)
+framed s js = after_list (run s js) (framed_from s)
 
 -- a refusal's number and place, or 0 and the number answered
 abbrev pub said_of : Reply → Said

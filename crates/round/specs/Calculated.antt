@@ -4,16 +4,16 @@ use Rattle.rules.specs.Round.{next}
 use Rattle.rules.specs.Messages.{delivered}
 use Rattle.rules.proofs.Right.{Right}
 use Rattle.sheet.specs.declared.SheetHeld.{SheetHeld}
-use Rattle.sheet.specs.Held.{sheetSaid}
+use Rattle.sheet.specs.Held.{sheet_said}
 use Rattle.order.specs.Order.{Order}
-use Rattle.node.specs.Net.{stateSaid, SmallInbox, Net}
+use Rattle.node.specs.Net.{state_said, SmallInbox, Net}
 
 -- the opposites of node i's links lie within the inbox
 pub record Tellable (i : ℕ) (ss os inbox : List ℕ) : Type 0 where
   pub node : i < 64
   pub start-size : length ss ≡ 65
   pub opposite-size : length os ≡ 512
-  pub inbox-size : length inbox ≡ 512
+  pub inbox_size : length inbox ≡ 512
   pub rise : get_or ss i 0 ≤ get_or ss (i + 1) 0
   pub top : get_or ss (i + 1) 0 ≤ 512
   pub low : (l : ℕ) → l < get_or ss (i + 1) 0 → get_or os l 0 < 512
@@ -42,13 +42,13 @@ pub record Given (h : SheetHeld) (tr xs ss gs ps os line ord : List ℕ) : Type 
 pub record AllTold (h : SheetHeld) (tr fs ts ls xs os inbox : List ℕ) : Type 0 where
   pub size : length inbox ≡ 512
   pub small : SmallInbox inbox
-  pub right : Right (sheetSaid h tr fs ts ls xs) (stateSaid h.links os inbox)
-  pub done : delivered (stateSaid h.links os inbox) ≡ h.links
+  pub right : Right (sheet_said h tr fs ts ls xs) (state_said h.links os inbox)
+  pub done : delivered (state_said h.links os inbox) ≡ h.links
 
 -- the fractions ys are those of the next sheet
 pub record Calculated (h : SheetHeld) (tr fs ts ls xs ys : List ℕ) : Type 0 where
   pub size : length ys ≡ 512
-  pub said : sheetSaid h tr fs ts ls ys ≡ next (sheetSaid h tr fs ts ls xs)
+  pub said : sheet_said h tr fs ts ls ys ≡ next (sheet_said h tr fs ts ls xs)
 
 -- all told, and calculated, whatever the ends, the load steps and the turns are
 module _ (h : SheetHeld) (tr xs ss gs ps os line ord : List ℕ) where

@@ -12,12 +12,12 @@ use lib.ListN.{length, get_or, set, length-set, length-replicate, get_or-replica
 use lib.Seq.{ext_get_or, get_or-set_same, get_or-set_other}
 use Rattle.rules.specs.Sheet.{Link, Sheet}
 use Rattle.rules.specs.Desk.{Told, silent, told, heard, Desk, message, status}
-use Rattle.rules.specs.Round.{fullDesk}
-use Rattle.rules.specs.Messages.{State, start, back, desk, link_of, sender, waitsOn, waits, deliver, left, run_from, run}
-use Rattle.rules.specs.Calls.{nodeFrame}
+use Rattle.rules.specs.Round.{full_desk}
+use Rattle.rules.specs.Messages.{State, start, back, desk, link_of, sender, waits_on, waits, deliver, left, run_from, run}
+use Rattle.rules.specs.Calls.{node_frame}
 use Rattle.rules.proofs.Tests.{known, clash, same_test}
 use Rattle.rules.proofs.Sound.{Sound, row_from}
-use Rattle.rules.proofs.Local.{opposite-ends, heard-local}
+use Rattle.rules.proofs.Local.{opposite-ends, heard_local}
 use Rattle.rules.proofs.Right.{status-same, Right}
 use Rattle.rules.proofs.Run.{run_step}
 use Rattle.rules.proofs.Tally.{frame_right}
@@ -31,32 +31,32 @@ HeardAlike s st su = (k : ℕ) → k < length s.links → heard (get_or st k sil
 
 -- ---- for every sheet and every state
 module _ (s : Sheet) (st su : State) where
-  pub status-alike : (i : ℕ) → HeardInto s i st su → status (desk s st i) ≡ status (desk s su i)
-  status-alike i h = status-same s (back s.links st) (back s.links su) i (λ l m.
-      heard-local s.links l st su (λ k a o. h k a ((opposite-ends l (link_of s k) o).1 ∙ row_from i s.links m)))
+  pub status_alike : (i : ℕ) → HeardInto s i st su → status (desk s st i) ≡ status (desk s su i)
+  status_alike i h = status-same s (back s.links st) (back s.links su) i (λ l m.
+      heard_local s.links l st su (λ k a o. h k a ((opposite-ends l (link_of s k) o).1 ∙ row_from i s.links m)))
 
-  waits-on : (n : ℕ) (l : Link) (w v : Told) → heard w ≡ heard v → waitsOn n l w ≡ waitsOn n l v
-  waits-on n l w v e = rw e
+  waits_on_lem : (n : ℕ) (l : Link) (w v : Told) → heard w ≡ heard v → waits_on n l w ≡ waits_on n l v
+  waits_on_lem n l w v e = rw e
 
-  pub waits-alike : (j : ℕ) → HeardInto s (link_of s j).from st su → heard (get_or st j silent) ≡ heard (get_or su j silent) → waits s st j ≡ waits s su j
-  waits-alike j h e =
-      ap (λ (n : ℕ). waitsOn n (link_of s j) (get_or st j silent)) (status-alike (link_of s j).from h)
-      ∙ waits-on (status (sender s su j)) (link_of s j) (get_or st j silent) (get_or su j silent) e
+  pub waits_alike : (j : ℕ) → HeardInto s (link_of s j).from st su → heard (get_or st j silent) ≡ heard (get_or su j silent) → waits s st j ≡ waits s su j
+  waits_alike j h e =
+      ap (λ (n : ℕ). waits_on n (link_of s j) (get_or st j silent)) (status_alike (link_of s j).from h)
+      ∙ waits_on_lem (status (sender s su j)) (link_of s j) (get_or st j silent) (get_or su j silent) e
 
 -- ---- right states
 module _ {s : Sheet} (ok : Sound s) {st su : State} (p : Right s st) (q : Right s su) where
-  pub frame-alike : (i : ℕ) → HeardInto s i st su → nodeFrame (status (desk s st i)) (desk s st i) ≡ nodeFrame (status (desk s su i)) (desk s su i)
-  frame-alike i h =
+  pub frame_alike : (i : ℕ) → HeardInto s i st su → node_frame (status (desk s st i)) (desk s st i) ≡ node_frame (status (desk s su i)) (desk s su i)
+  frame_alike i h =
       frame_right ok p i (status (desk s st i)) refl
-      ∙ ap (λ (k : ℕ). nodeFrame k (fullDesk s i)) (status-alike s st su i h)
+      ∙ ap (λ (k : ℕ). node_frame k (full_desk s i)) (status_alike s st su i h)
       ∙ sym (frame_right ok q i (status (desk s su i)) refl)
 
   silence : (w : Told) → heard w ≡ false → w ≡ silent
   silence silent e = refl
   silence (told m b) e = clash refl e
 
-  pub state-alike : HeardAlike s st su → st ≡ su
-  state-alike h = ext_get_or silent st su (p.size ∙ sym q.size) (λ k a. go k (omega (arith, p.size)) (known (heard (get_or st k silent))))
+  pub state_alike : HeardAlike s st su → st ≡ su
+  state_alike h = ext_get_or silent st su (p.size ∙ sym q.size) (λ k a. go k (omega (arith, p.size)) (known (heard (get_or st k silent))))
     where
       go : (k : ℕ) → k < length s.links → (heard (get_or st k silent) ≡ true) ⊎ (heard (get_or st k silent) ≡ false) → get_or st k silent ≡ get_or su k silent
       go k a (inl e) = p.holds k a e ∙ sym (q.holds k a (sym (h k a) ∙ e))

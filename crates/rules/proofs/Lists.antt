@@ -11,8 +11,8 @@ use mathlib.Core.List.Memᴰ.{not-nil}
 use mathlib.Core.List.Memᴰ.{tail as there}
 use mathlib.Core.List.{List, [], ◌∷◌, ◌++◌, map, Memᴰ as In}
 use lib.ListN.{length, get_or}
-use Rattle.rules.specs.Lists.{every, exists, keep, total, bit, howMany, counted, below}
-use Rattle.rules.proofs.Tests.{known, bit-one, clash, refuted, and-gives, and-holds, or-gives, or_left, or_right}
+use Rattle.rules.specs.Lists.{every, exists, keep, total, bit, how_many, counted, below}
+use Rattle.rules.proofs.Tests.{known, bit-one, clash, refuted, and_gives, and_holds, or_gives, or_left, or_right}
 
 module _ {A : Type 0} where
   -- what holds of the head and of each of the tail holds of each
@@ -20,47 +20,47 @@ module _ {A : Type 0} where
   each P h t y (here e) = subst P (sym e) h
   each P h t y (there m) = t y m
 
-  pub getD-in : (xs : List A) (j : ℕ) (d : A) → j < length xs → In (get_or xs j d) xs
-  getD-in [] j d h = absurd (omega arith)
-  getD-in (x ∷ xs) zero d h = here refl
-  getD-in (x ∷ xs) (suc j) d h = there (getD-in xs j d (omega arith))
+  pub get_or_in : (xs : List A) (j : ℕ) (d : A) → j < length xs → In (get_or xs j d) xs
+  get_or_in [] j d h = absurd (omega arith)
+  get_or_in (x ∷ xs) zero d h = here refl
+  get_or_in (x ∷ xs) (suc j) d h = there (get_or_in xs j d (omega arith))
 
   -- ---- all, any
-  pub every-gives : (p : A → Bool) (xs : List A) {x : A} → every p xs ≡ true → In x xs → p x ≡ true
-  every-gives p (y ∷ xs) e (here q) = ap p q ∙ (and-gives (p y) (every p xs) e).0
-  every-gives p (y ∷ xs) e (there m) = every-gives p xs (and-gives (p y) (every p xs) e).1 m
+  pub every_gives : (p : A → Bool) (xs : List A) {x : A} → every p xs ≡ true → In x xs → p x ≡ true
+  every_gives p (y ∷ xs) e (here q) = ap p q ∙ (and_gives (p y) (every p xs) e).0
+  every_gives p (y ∷ xs) e (there m) = every_gives p xs (and_gives (p y) (every p xs) e).1 m
 
   pub every_holds : (p : A → Bool) (xs : List A) → ((x : A) → In x xs → p x ≡ true) → every p xs ≡ true
   every_holds p [] f = refl
-  every_holds p (y ∷ xs) f = and-holds (f y (here refl)) (every_holds p xs (λ x m. f x (there m)))
+  every_holds p (y ∷ xs) f = and_holds (f y (here refl)) (every_holds p xs (λ x m. f x (there m)))
 
-  pub exists-gives : (p : A → Bool) (xs : List A) → exists p xs ≡ true → (x : A) × In x xs × (p x ≡ true)
-  exists-gives p [] e = clash e refl
-  exists-gives p (y ∷ xs) e = go (exists-gives p xs) (or-gives (p y) (exists p xs) e)
+  pub exists_gives : (p : A → Bool) (xs : List A) → exists p xs ≡ true → (x : A) × In x xs × (p x ≡ true)
+  exists_gives p [] e = clash e refl
+  exists_gives p (y ∷ xs) e = go (exists_gives p xs) (or_gives (p y) (exists p xs) e)
     where
       go : (exists p xs ≡ true → (x : A) × In x xs × (p x ≡ true)) → (p y ≡ true) ⊎ (exists p xs ≡ true) → (x : A) × In x (y ∷ xs) × (p x ≡ true)
       go ih (inl q) = (y, here refl, q)
       go ih (inr q) = let r = ih q in (r.0, there r.1, r.2)
 
-  pub exists-holds : (p : A → Bool) {x : A} {xs : List A} → In x xs → p x ≡ true → exists p xs ≡ true
-  exists-holds p (here {xs = ys} e) h = or_left (exists p ys) (ap p (sym e) ∙ h)
-  exists-holds p (there {x = y} m) h = or_right (p y) (exists-holds p m h)
+  pub exists_holds : (p : A → Bool) {x : A} {xs : List A} → In x xs → p x ≡ true → exists p xs ≡ true
+  exists_holds p (here {xs = ys} e) h = or_left (exists p ys) (ap p (sym e) ∙ h)
+  exists_holds p (there {x = y} m) h = or_right (p y) (exists_holds p m h)
 
-  pub exists-never : (p : A → Bool) (xs : List A) → ((x : A) → In x xs → p x ≡ false) → exists p xs ≡ false
-  exists-never p xs h = refuted (exists p xs) (λ e. let r = exists-gives p xs e in clash r.2 (h r.0 r.1))
+  pub exists_never : (p : A → Bool) (xs : List A) → ((x : A) → In x xs → p x ≡ false) → exists p xs ≡ false
+  exists_never p xs h = refuted (exists p xs) (λ e. let r = exists_gives p xs e in clash r.2 (h r.0 r.1))
 
   -- ---- keep
-  pub in-keep : (p : A → Bool) (xs : List A) {x : A} → In x (keep p xs) → In x xs × (p x ≡ true)
-  in-keep p (y ∷ xs) {x} m = go (p y) refl m (λ n. in-keep p xs n)
+  pub in_keep : (p : A → Bool) (xs : List A) {x : A} → In x (keep p xs) → In x xs × (p x ≡ true)
+  in_keep p (y ∷ xs) {x} m = go (p y) refl m (λ n. in_keep p xs n)
     where
       go : (b : Bool) → p y ≡ b → In x (cond b (y ∷ keep p xs) (keep p xs)) → (In x (keep p xs) → In x xs × (p x ≡ true)) → In x (y ∷ xs) × (p x ≡ true)
       go true e (here q) ih = (here q, ap p q ∙ e)
       go true e (there n) ih = let r = ih n in (there r.0, r.1)
       go false e n ih = let r = ih n in (there r.0, r.1)
 
-  pub keep-in : (p : A → Bool) {x : A} {xs : List A} → In x xs → p x ≡ true → In x (keep p xs)
-  keep-in p (here q) h = rw (sym (ap p q) ∙ h) (here q)
-  keep-in p {x} (there {x = y} {xs = ys} m) h = go (p y) (keep-in p m h)
+  pub keep_in : (p : A → Bool) {x : A} {xs : List A} → In x xs → p x ≡ true → In x (keep p xs)
+  keep_in p (here q) h = rw (sym (ap p q) ∙ h) (here q)
+  keep_in p {x} (there {x = y} {xs = ys} m) h = go (p y) (keep_in p m h)
     where
       go : (b : Bool) → In x (keep p ys) → In x (cond b (y ∷ keep p ys) (keep p ys))
       go true r = there r
@@ -76,30 +76,30 @@ module _ {A : Type 0} where
       go (inr e) ih = rw (e, h x e) ih
 
   -- ---- sums
-  pub total-eq : (f g : A → ℕ) (xs : List A) → ((x : A) → In x xs → f x ≡ g x) → total f xs ≡ total g xs
-  total-eq f g [] h = refl
-  total-eq f g (x ∷ xs) h = omega (arith, h x (here refl), total-eq f g xs (λ y m. h y (there m)))
+  pub total_eq : (f g : A → ℕ) (xs : List A) → ((x : A) → In x xs → f x ≡ g x) → total f xs ≡ total g xs
+  total_eq f g [] h = refl
+  total_eq f g (x ∷ xs) h = omega (arith, h x (here refl), total_eq f g xs (λ y m. h y (there m)))
 
-  pub total-le : (f g : A → ℕ) (xs : List A) → ((x : A) → In x xs → f x ≤ g x) → total f xs ≤ total g xs
-  total-le f g [] h = omega arith
-  total-le f g (x ∷ xs) h = omega (arith, h x (here refl), total-le f g xs (λ y m. h y (there m)))
+  pub total_le : (f g : A → ℕ) (xs : List A) → ((x : A) → In x xs → f x ≤ g x) → total f xs ≤ total g xs
+  total_le f g [] h = omega arith
+  total_le f g (x ∷ xs) h = omega (arith, h x (here refl), total_le f g xs (λ y m. h y (there m)))
 
   -- one element is at most the sum
   pub total-one : (f : A → ℕ) {x : A} {xs : List A} → In x xs → f x ≤ total f xs
   total-one f (here e) = omega (arith, ap f e)
   total-one f (there m) = omega (arith, total-one f m)
 
-  pub total-zero : (f : A → ℕ) (xs : List A) → ((x : A) → In x xs → f x ≡ 0) → total f xs ≡ 0
-  total-zero f [] h = refl
-  total-zero f (x ∷ xs) h = omega (arith, h x (here refl), total-zero f xs (λ y m. h y (there m)))
+  pub total_zero : (f : A → ℕ) (xs : List A) → ((x : A) → In x xs → f x ≡ 0) → total f xs ≡ 0
+  total_zero f [] h = refl
+  total_zero f (x ∷ xs) h = omega (arith, h x (here refl), total_zero f xs (λ y m. h y (there m)))
 
-  pub total-add : (f g : A → ℕ) (xs : List A) → total (λ x. f x + g x) xs ≡ total f xs + total g xs
-  total-add f g [] = omega arith
-  total-add f g (x ∷ xs) = omega (arith, total-add f g xs)
+  pub total_add : (f g : A → ℕ) (xs : List A) → total (λ x. f x + g x) xs ≡ total f xs + total g xs
+  total_add f g [] = omega arith
+  total_add f g (x ∷ xs) = omega (arith, total_add f g xs)
 
-  pub total-mul : (f : A → ℕ) (k : ℕ) (xs : List A) → total (λ x. f x * k) xs ≡ total f xs * k
-  total-mul f k [] = omega arith
-  total-mul f k (x ∷ xs) = omega (arith, total-mul f k xs)
+  pub total_mul : (f : A → ℕ) (k : ℕ) (xs : List A) → total (λ x. f x * k) xs ≡ total f xs * k
+  total_mul f k [] = omega arith
+  total_mul f k (x ∷ xs) = omega (arith, total_mul f k xs)
 
   pub total-keep : (f : A → ℕ) (p : A → Bool) (xs : List A) → ((x : A) → p x ≡ false → f x ≡ 0) → total f xs ≡ total f (keep p xs)
   total-keep f p [] h = refl
@@ -124,28 +124,28 @@ module _ {A : Type 0} where
   total-append f (x ∷ xs) ys = omega (arith, total-append f xs ys)
 
   -- ---- counts
-  pub count-le : (p : A → Bool) (xs : List A) → howMany p xs ≤ length xs
-  count-le p [] = omega arith
-  count-le p (x ∷ xs) = omega (arith, bit-one (p x), count-le p xs)
+  pub count_le : (p : A → Bool) (xs : List A) → how_many p xs ≤ length xs
+  count_le p [] = omega arith
+  count_le p (x ∷ xs) = omega (arith, bit-one (p x), count_le p xs)
 
   -- the count is full exactly where the test passes at each
-  pub count-full : (p : A → Bool) (xs : List A) → howMany p xs ≡ length xs → (x : A) → In x xs → p x ≡ true
-  count-full p [] e x m = absurd (not-nil m)
-  count-full p (y ∷ xs) e x m = go (p y) refl (count-full p xs) e x m
+  pub count_full : (p : A → Bool) (xs : List A) → how_many p xs ≡ length xs → (x : A) → In x xs → p x ≡ true
+  count_full p [] e x m = absurd (not-nil m)
+  count_full p (y ∷ xs) e x m = go (p y) refl (count_full p xs) e x m
     where
-      go : (b : Bool) → p y ≡ b → (howMany p xs ≡ length xs → (x : A) → In x xs → p x ≡ true)
-          → bit b + howMany p xs ≡ length (y ∷ xs) → (x : A) → In x (y ∷ xs) → p x ≡ true
+      go : (b : Bool) → p y ≡ b → (how_many p xs ≡ length xs → (x : A) → In x xs → p x ≡ true)
+          → bit b + how_many p xs ≡ length (y ∷ xs) → (x : A) → In x (y ∷ xs) → p x ≡ true
       go true q ih e = each (λ (x : A). p x ≡ true) q (ih (omega arith))
-      go false q ih e = absurd (omega (arith, count-le p xs))
+      go false q ih e = absurd (omega (arith, count_le p xs))
 
-  pub full-count : (p : A → Bool) (xs : List A) → ((x : A) → In x xs → p x ≡ true) → howMany p xs ≡ length xs
-  full-count p [] h = refl
-  full-count p (x ∷ xs) h = rw (h x (here refl)) (omega (arith, full-count p xs (λ y m. h y (there m))))
+  pub full_count : (p : A → Bool) (xs : List A) → ((x : A) → In x xs → p x ≡ true) → how_many p xs ≡ length xs
+  full_count p [] h = refl
+  full_count p (x ∷ xs) h = rw (h x (here refl)) (omega (arith, full_count p xs (λ y m. h y (there m))))
 
 module _ {A B : Type 0} where
-  pub map-eq : (f g : A → B) (xs : List A) → ((x : A) → In x xs → f x ≡ g x) → map f xs ≡ map g xs
-  map-eq f g [] h = refl
-  map-eq f g (x ∷ xs) h = ap₂ ◌∷◌ (h x (here refl)) (map-eq f g xs (λ y m. h y (there m)))
+  pub map_eq : (f g : A → B) (xs : List A) → ((x : A) → In x xs → f x ≡ g x) → map f xs ≡ map g xs
+  map_eq f g [] h = refl
+  map_eq f g (x ∷ xs) h = ap₂ ◌∷◌ (h x (here refl)) (map_eq f g xs (λ y m. h y (there m)))
 
   pub map_at : (f : A → B) (xs : List A) (j : ℕ) (a : A) (b : B) → j < length xs → get_or (map f xs) j b ≡ f (get_or xs j a)
   map_at f [] j a b h = absurd (omega arith)
@@ -185,27 +185,27 @@ counted-at k (suc n) (suc i) d h = omega (arith, counted-at (suc k) n i d (omega
 pub below_at : (n i d : ℕ) → i < n → get_or (below n) i d ≡ i
 below_at n i d h = omega (arith, counted-at 0 n i d h)
 
-counted-under : (k n : ℕ) {i : ℕ} → In i (counted k n) → i < k + n
-counted-under k zero m = elim m [ ]
-counted-under k (suc n) {i} m = elim m [ here e ↦ omega arith | there u ↦ omega (arith, counted-under (suc k) n u) ]
+counted_under : (k n : ℕ) {i : ℕ} → In i (counted k n) → i < k + n
+counted_under k zero m = elim m [ ]
+counted_under k (suc n) {i} m = elim m [ here e ↦ omega arith | there u ↦ omega (arith, counted_under (suc k) n u) ]
 
-pub in-below : (n : ℕ) {i : ℕ} → In i (below n) → i < n
-in-below n m = omega (arith, counted-under 0 n m)
+pub in_below : (n : ℕ) {i : ℕ} → In i (below n) → i < n
+in_below n m = omega (arith, counted_under 0 n m)
 
 pub below_in : (n i : ℕ) → i < n → In i (below n)
-below_in n i h = Memᴰ.cast (sym (below_at n i 0 h)) (getD-in (below n) i 0 (omega (arith, below_length n)))
+below_in n i h = Memᴰ.cast (sym (below_at n i 0 h)) (get_or_in (below n) i 0 (omega (arith, below_length n)))
 
-counted-last : (n k : ℕ) → counted n (suc k) ≡ counted n k ++ ((n + k) ∷ [])
-counted-last n zero = ap (λ (x : ℕ). x ∷ []) (omega arith)
-counted-last n (suc k) =
+counted_last : (n k : ℕ) → counted n (suc k) ≡ counted n k ++ ((n + k) ∷ [])
+counted_last n zero = ap (λ (x : ℕ). x ∷ []) (omega arith)
+counted_last n (suc k) =
     let e : suc n + k ≡ n + suc k = omega arith in
-    ap (λ (xs : List ℕ). n ∷ xs) (counted-last (suc n) k ∙ ap (λ (x : ℕ). counted (suc n) k ++ (x ∷ [])) e)
+    ap (λ (xs : List ℕ). n ∷ xs) (counted_last (suc n) k ∙ ap (λ (x : ℕ). counted (suc n) k ++ (x ∷ [])) e)
 
 pub below_last : (k : ℕ) → below (suc k) ≡ below k ++ (k ∷ [])
-below_last k = let e : 0 + k ≡ k = omega arith in counted-last 0 k ∙ ap (λ (x : ℕ). below k ++ (x ∷ [])) e
+below_last k = let e : 0 + k ≡ k = omega arith in counted_last 0 k ∙ ap (λ (x : ℕ). below k ++ (x ∷ [])) e
 
-pub total-last : (f : ℕ → ℕ) (k : ℕ) → total f (below (suc k)) ≡ total f (below k) + f k
-total-last f k = ap (total f) (below_last k) ∙ total-append f (below k) (k ∷ []) ∙ omega arith
+pub total_last : (f : ℕ → ℕ) (k : ℕ) → total f (below (suc k)) ≡ total f (below k) + f k
+total_last f k = ap (total f) (below_last k) ∙ total-append f (below k) (k ∷ []) ∙ omega arith
 
 -- a table over 0, 1, .. n - 1, read at a place
 module _ {A : Type 0} (f : ℕ → A) (d : A) where
@@ -222,19 +222,19 @@ module _ {A : Type 0} (f : ℕ → A) (d : A) where
   from_out k (suc n) zero h = absurd (omega arith)
   from_out k (suc n) (suc i) h = from_out (suc k) n i (omega arith)
 
-  pub table-out : (n i : ℕ) → n ≤ i → get_or (map f (below n)) i d ≡ d
-  table-out n i h = from_out 0 n i h
+  pub table_out : (n i : ℕ) → n ≤ i → get_or (map f (below n)) i d ≡ d
+  table_out n i h = from_out 0 n i h
 
 -- a table of tests
-pub mark-gives : (p : ℕ → Bool) (n j : ℕ) → get_or (map p (below n)) j false ≡ true → p j ≡ true
-mark-gives p n j t = go (dec_lt j n)
+pub mark_gives : (p : ℕ → Bool) (n j : ℕ) → get_or (map p (below n)) j false ≡ true → p j ≡ true
+mark_gives p n j t = go (dec_lt j n)
   where
     go : Dec (j < n) → p j ≡ true
     go (yes h) = sym (table_at p false n j h) ∙ t
-    go (no h) = clash t (table-out p false n j (omega arith))
+    go (no h) = clash t (table_out p false n j (omega arith))
 
-pub mark-holds : (p : ℕ → Bool) (n j : ℕ) → j < n → p j ≡ true → get_or (map p (below n)) j false ≡ true
-mark-holds p n j h t = table_at p false n j h ∙ t
+pub mark_holds : (p : ℕ → Bool) (n j : ℕ) → j < n → p j ≡ true → get_or (map p (below n)) j false ≡ true
+mark_holds p n j h t = table_at p false n j h ∙ t
 
 -- two sums over the numbers below n that differ at t alone
 module _ (f g : ℕ → ℕ) (t : ℕ) (h : (i : ℕ) → i ≢ t → f i ≡ g i) where
@@ -251,5 +251,5 @@ module _ (f g : ℕ → ℕ) (t : ℕ) (h : (i : ℕ) → i ≢ t → f i ≡ g 
       go (yes e) ih = omega (arith, ap f e, ap g e, past (suc k) n (omega arith))
       go (no e) ih = omega (arith, h k e, ih (omega arith) (omega arith))
 
-  pub total-but : (n : ℕ) → t < n → total f (below n) + g t ≡ total g (below n) + f t
-  total-but n a = differ 0 n (omega arith) (omega arith)
+  pub total_but : (n : ℕ) → t < n → total f (below n) + g t ≡ total g (below n) + f t
+  total_but n a = differ 0 n (omega arith) (omega arith)

@@ -13,14 +13,14 @@ use Rattle.rules.specs.Bytes.{bytes}
 use Rattle.rules.specs.Judge.{Verdict, refused, accepted}
 use Rattle.rules.specs.Check.{check}
 use Rattle.rules.specs.Desk.{Told, silent, heard, message}
-use Rattle.rules.specs.Round.{newLink, rerouted, word_for, words, next}
-use Rattle.rules.specs.Messages.{State, start, back, sender, waits, deliver, delivered, Ran, stopped, left, run_from, run, lowestWaiting, chosen, houseFrom, house}
-use Rattle.rules.specs.Calls.{Reply, refusal, answer, writes, onSheet, room, afterList, checkReply, nextReply, framesOf, playReply, frameReply, houseReply}
-use Rattle.rules.proofs.Lists.{below_length, count-le}
+use Rattle.rules.specs.Round.{new_link, rerouted, word_for, words, next}
+use Rattle.rules.specs.Messages.{State, start, back, sender, waits, deliver, delivered, Ran, stopped, left, run_from, run, lowest_waiting, chosen, house_from, house}
+use Rattle.rules.specs.Calls.{Reply, refusal, answer, writes, on_sheet, room, after_list, check_reply, next_reply, frames_of, play_reply, frame_reply, house_reply}
+use Rattle.rules.proofs.Lists.{below_length, count_le}
 use Rattle.rules.proofs.Reading.{bytes-length}
-use Rattle.rules.proofs.Live.{deliver-count}
-use Rattle.rules.proofs.Tally.{frames-length}
-use Rattle.rules.proofs.Replies.{playEnd, playList, frameList}
+use Rattle.rules.proofs.Live.{deliver_count}
+use Rattle.rules.proofs.Tally.{frames_length}
+use Rattle.rules.proofs.Replies.{play_end, play_list, frame_list}
 use Rattle.rules.proofs.Places.{either, Sized, Low, check-low}
 
 -- ---- a list stops at index L at the latest: each entry before it was a delivery, and made on a link of its own
@@ -32,18 +32,18 @@ module _ (s : Sheet) where
   run-stops : (k : ℕ) (st : State) (js : List ℕ) → length st ≡ length s.links → k ≤ delivered st → StopsBy (length s.links) (run_from k s st js)
   run-stops k st [] z h = goes
   run-stops k st (j ∷ js) z h =
-      let here : k ≤ length s.links = omega (arith, count-le heard st) in
+      let here : k ≤ length s.links = omega (arith, count_le heard st) in
       either (StopsBy (length s.links)) (leb (length s.links) j) (λ a. stops here) (λ a.
       either (StopsBy (length s.links)) (not (waits s st j)) (λ q. stops here) (λ q.
       run-stops (suc k) (deliver s st j) js (length-set st j (message (sender s st j)) ∙ z)
-      (omega (arith, deliver-count s st j z (leb-false (length s.links) j a) (not-false (waits s st j) q)))))
+      (omega (arith, deliver_count s st j z (leb-false (length s.links) j a) (not-false (waits s st j) q)))))
 
   -- House order gives no more numbers than it makes choices
-  house-low : (k : ℕ) (st : State) → length (houseFrom k s st) ≤ k
+  house-low : (k : ℕ) (st : State) → length (house_from k s st) ≤ k
   house-low zero st = omega arith
-  house-low (suc k) st = go (lowestWaiting s st) (house-low k)
+  house-low (suc k) st = go (lowest_waiting s st) (house-low k)
     where
-      go : (q : Place) → ((st : State) → length (houseFrom k s st) ≤ k) → length (chosen q (λ j. houseFrom k s (deliver s st j))) ≤ suc k
+      go : (q : Place) → ((st : State) → length (house_from k s st) ≤ k) → length (chosen q (λ j. house_from k s (deliver s st j))) ≤ suc k
       go nowhere ih = omega arith
       go (at j) ih = omega (arith, ih (deliver s st j))
 
@@ -56,51 +56,51 @@ value_of (answer v new) = v
 abbrev Small : Reply → Type 0
 Small r = value_of r ≤ 4488
 
-verdict-small : (b : List ℕ) (v : Verdict) (go : Sheet → Reply) → Low b v → ((s : Sheet) → Sized b s → Small (go s)) → Small (onSheet v go)
-verdict-small b (refused n p) go h f = h
-verdict-small b (accepted s) go h f = f s h
+verdict_small : (b : List ℕ) (v : Verdict) (go : Sheet → Reply) → Low b v → ((s : Sheet) → Sized b s → Small (go s)) → Small (on_sheet v go)
+verdict_small b (refused n p) go h f = h
+verdict_small b (accepted s) go h f = f s h
 
-stop-small : {top : ℕ} {r : Ran} (end : State → Reply) → top ≤ 4488 → StopsBy top r → ((st : State) → Small (end st)) → Small (afterList r end)
-stop-small end h (stops l) f = omega arith
-stop-small end h (goes {st}) f = f st
+stop_small : {top : ℕ} {r : Ran} (end : State → Reply) → top ≤ 4488 → StopsBy top r → ((st : State) → Small (end st)) → Small (after_list r end)
+stop_small end h (stops l) f = omega arith
+stop_small end h (goes {st}) f = f st
 
 module _ (b : List ℕ) where
   -- the sheet, then the room, then the rest
-  call-small : (have : ℕ) (need : Sheet → ℕ) (go : Sheet → Reply) → ((s : Sheet) → Sized b s → (need s ≤ 4488) × Small (go s))
-      → Small (onSheet (check b) (λ s. room have (need s) (go s)))
-  call-small have need go f = verdict-small b (check b) (λ s. room have (need s) (go s)) (check-low b) (λ s z.
+  call_small : (have : ℕ) (need : Sheet → ℕ) (go : Sheet → Reply) → ((s : Sheet) → Sized b s → (need s ≤ 4488) × Small (go s))
+      → Small (on_sheet (check b) (λ s. room have (need s) (go s)))
+  call_small have need go f = verdict_small b (check b) (λ s. room have (need s) (go s)) (check-low b) (λ s z.
       either Small (ltb have (need s)) (λ e. (f s z).0) (λ e. (f s z).1))
 
   -- with whatever fractions
   bytes_small : (s : Sheet) → Sized b s → (w : Link → Told) → length (bytes (rerouted s w)) ≤ 4488
-  bytes_small s z w = omega (arith, bytes-length (rerouted s w), length-map s.links (newLink s w))
+  bytes_small s z w = omega (arith, bytes-length (rerouted s w), length-map s.links (new_link s w))
 
-  pub check-small : value_of (checkReply b) ≤ 4488
-  check-small = verdict-small b (check b) (λ s. answer (length s.links) []) (check-low b) (λ s z. omega arith)
+  pub check-small : value_of (check_reply b) ≤ 4488
+  check-small = verdict_small b (check b) (λ s. answer (length s.links) []) (check-low b) (λ s z. omega arith)
 
-  pub next_small : (have : ℕ) → value_of (nextReply b have) ≤ 4488
-  next_small have = call-small have (λ s. length b) (λ s. writes (bytes (next s))) (λ s z. (z.row, bytes_small s z (word_for (words s))))
+  pub next_small : (have : ℕ) → value_of (next_reply b have) ≤ 4488
+  next_small have = call_small have (λ s. length b) (λ s. writes (bytes (next s))) (λ s z. (z.row, bytes_small s z (word_for (words s))))
 
-  pub house-small : (have : ℕ) → value_of (houseReply b have) ≤ 4488
-  house-small have = call-small have (λ s. length s.links) (λ s. writes (house s)) (λ s z.
+  pub house-small : (have : ℕ) → value_of (house_reply b have) ≤ 4488
+  house-small have = call_small have (λ s. length s.links) (λ s. writes (house s)) (λ s z.
       (omega arith, omega (arith, house-low s (length s.links) (start s))))
 
   module _ (js : List ℕ) (have : ℕ) where
-    list-small : (s : Sheet) → Sized b s → (end : State → Reply) → ((st : State) → Small (end st)) → Small (afterList (run s js) end)
-    list-small s z end =
-        stop-small end (omega arith) (run-stops s 0 (start s) js (length-replicate (length s.links) silent) (omega arith))
+    list_small : (s : Sheet) → Sized b s → (end : State → Reply) → ((st : State) → Small (end st)) → Small (after_list (run s js) end)
+    list_small s z end =
+        stop_small end (omega arith) (run-stops s 0 (start s) js (length-replicate (length s.links) silent) (omega arith))
 
-    pub play-small : value_of (playReply b js have) ≤ 4488
-    play-small = call-small have (λ s. length b) (λ s. playList s js) (λ s z. (
+    pub play-small : value_of (play_reply b js have) ≤ 4488
+    play-small = call_small have (λ s. length b) (λ s. play_list s js) (λ s z. (
       z.row,
-      list-small s z (playEnd s js) (λ st.
+      list_small s z (play_end s js) (λ st.
           either Small (ltb (length js) (length s.links)) (λ e. omega (arith, ltb-true (length js) (length s.links) e))
           (λ e. bytes_small s z (back s.links st))),
     ))
 
-    pub frame_small : value_of (frameReply b js have) ≤ 4488
-    frame_small = call-small have (λ s. 6 * s.nodes) (λ s. frameList s js) (λ s z. (
+    pub frame_small : value_of (frame_reply b js have) ≤ 4488
+    frame_small = call_small have (λ s. 6 * s.nodes) (λ s. frame_list s js) (λ s z. (
       omega arith,
-      list-small s z (λ st. writes (framesOf s st (below s.nodes))) (λ st.
-          omega (arith, frames-length s st (below s.nodes), below_length s.nodes)),
+      list_small s z (λ st. writes (frames_of s st (below s.nodes))) (λ st.
+          omega (arith, frames_length s st (below s.nodes), below_length s.nodes)),
     ))

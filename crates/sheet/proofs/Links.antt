@@ -15,31 +15,31 @@ use borrow.Author.Tests.{lt-ltb, le-leb, leb-true, eq-eqb, ne_eqb, eqb-true}
 use Rattle.rules.specs.Lists.{below}
 use Rattle.rules.specs.Sheet.{Link}
 use Rattle.rules.specs.Bytes.{AreBytes}
-use Rattle.rules.specs.Check.{Read, wrong, read, recordAt, in_range, linkFields, Item, theEnd, link, item_at, rises, follows, linksFrom}
-use Rattle.rules.proofs.Tests.{same_test, and-gives, and-holds, or_left, or_right}
-use Rattle.rules.proofs.Lists.{map-eq, in-below, below_last}
-use Rattle.rules.proofs.Order.{rises-less}
-use Rattle.rules.proofs.Records.{unread, record-gives, record-holds}
-use Rattle.rules.proofs.Steps.{links-stop, links_end, links-full, links-low, links-on, pushedAll, pushed-last, pushed-wrong, pushed-end}
+use Rattle.rules.specs.Check.{Read, wrong, read, record_at, in_range, link_fields, Item, the_end, link, item_at, rises, follows, links_from}
+use Rattle.rules.proofs.Tests.{same_test, and_gives, and_holds, or_left, or_right}
+use Rattle.rules.proofs.Lists.{map_eq, in_below, below_last}
+use Rattle.rules.proofs.Order.{rises_less}
+use Rattle.rules.proofs.Records.{unread, record_gives, record_holds}
+use Rattle.rules.proofs.Steps.{links_stop, links_end, links-full, links-low, links_on, pushed_all, pushed_last, pushed-wrong, pushed_end}
 use Rattle.numbers.specs.declared.Fraction.{Fraction}
-use Rattle.sheet.specs.Held.{held_at, held, lastHeld, itemReadSaid, key_of, LinkRoom, stopped, TakenHeld, LinksHeld}
+use Rattle.sheet.specs.Held.{held_at, held, last_held, item_read_said, key_of, LinkRoom, stopped, TakenHeld, LinksHeld}
 use Rattle.sheet.specs.declared.ItemRead.{ItemRead}
 use Rattle.sheet.specs.declared.LinksTaken.{LinksTaken}
 use Rattle.sheet.specs.declared.LinksRead.{LinksRead}
 
-and-true : (a : Bool) {b : Bool} → b ≡ true → (a && b) ≡ a
-and-true true q = q
-and-true false q = refl
+and_true : (a : Bool) {b : Bool} → b ≡ true → (a && b) ≡ a
+and_true true q = q
+and_true false q = refl
 
 -- ---- the order by keys
 abbrev key : Link → ℕ
 key l = key_of l.from l.to
 
-rises-by-key : (l m : Link) → l.to < 256 → m.to < 256 → rises l m ≡ leb (key l + 1) (key m)
-rises-by-key l m p q = same_test (rises l m) (leb (key l + 1) (key m)) up down
+rises_by_key : (l m : Link) → l.to < 256 → m.to < 256 → rises l m ≡ leb (key l + 1) (key m)
+rises_by_key l m p q = same_test (rises l m) (leb (key l + 1) (key m)) up down
   where
     up : rises l m ≡ true → leb (key l + 1) (key m) ≡ true
-    up r = le-leb (key l + 1) (key m) (⊎_elim (λ a. omega arith) (λ a. omega arith) (rises-less l m r))
+    up r = le-leb (key l + 1) (key m) (⊎_elim (λ a. omega arith) (λ a. omega arith) (rises_less l m r))
 
     down : leb (key l + 1) (key m) ≡ true → rises l m ≡ true
     down r = go (dec_lt l.from m.from) (leb-true (key l + 1) (key m) r)
@@ -49,35 +49,35 @@ rises-by-key l m p q = same_test (rises l m) (leb (key l + 1) (key m)) up down
         go (no a) h =
             let same : l.from ≡ m.from = omega arith in
             let less : l.to < m.to = omega arith in
-            or_right (ltb l.from m.from) (and-holds (eq-eqb l.from m.from same) (lt-ltb l.to m.to less))
+            or_right (ltb l.from m.from) (and_holds (eq-eqb l.from m.from same) (lt-ltb l.to m.to less))
 
 -- ---- what stands where a link is due
 module _ (b : List ℕ) (o n : ℕ) where
   fields : Link → Read Item
   fields l = cond (in_range n l) (read (link l) (o + 8)) (wrong 3 o)
 
-  pub item-taken : get_or b o 0 ≡ 3 → o + 8 ≤ length b → in_range n (linkFields b o) ≡ true → item_at b o n ≡ read (link (linkFields b o)) (o + 8)
+  pub item_taken : get_or b o 0 ≡ 3 → o + 8 ≤ length b → in_range n (link_fields b o) ≡ true → item_at b o n ≡ read (link (link_fields b o)) (o + 8)
   unfolding fields
-  item-taken kind room range =
+  item_taken kind room range =
       let other : get_or b o 0 ≡ 9 → ⊥ = λ e. omega (arith, kind, e) in
-      rw (ne_eqb (get_or b o 0) 9 other) (record-holds b o 3 7 (fields (linkFields b o)) kind (omega arith) ∙ rw range)
+      rw (ne_eqb (get_or b o 0) 9 other) (record_holds b o 3 7 (fields (link_fields b o)) kind (omega arith) ∙ rw range)
 
-  pub item-link : {l : Link} {e : ℕ} → item_at b o n ≡ read (link l) e
-      → (get_or b o 0 ≡ 3) × (o + 8 ≤ length b) × (in_range n (linkFields b o) ≡ true) × (linkFields b o ≡ l)
+  pub item_link : {l : Link} {e : ℕ} → item_at b o n ≡ read (link l) e
+      → (get_or b o 0 ≡ 3) × (o + 8 ≤ length b) × (in_range n (link_fields b o) ≡ true) × (link_fields b o ≡ l)
   unfolding fields
-  item-link {l} {e} q = go (eqb (get_or b o 0) 9) q
+  item_link {l} {e} q = go (eqb (get_or b o 0) 9) q
     where
-      passed : (c : Bool) → in_range n (linkFields b o) ≡ c → cond c (read (link (linkFields b o)) (o + 8)) (wrong 3 o) ≡ read (link l) e
-          → (in_range n (linkFields b o) ≡ true) × (linkFields b o ≡ l)
+      passed : (c : Bool) → in_range n (link_fields b o) ≡ c → cond c (read (link (link_fields b o)) (o + 8)) (wrong 3 o) ≡ read (link l) e
+          → (in_range n (link_fields b o) ≡ true) × (link_fields b o ≡ l)
       passed true r p = (r, cc)
       passed false r p = unread p
 
-      go : (c : Bool) → cond c (read theEnd (o + 1)) (recordAt b o 3 7 (fields (linkFields b o))) ≡ read (link l) e
-          → (get_or b o 0 ≡ 3) × (o + 8 ≤ length b) × (in_range n (linkFields b o) ≡ true) × (linkFields b o ≡ l)
+      go : (c : Bool) → cond c (read the_end (o + 1)) (record_at b o 3 7 (fields (link_fields b o))) ≡ read (link l) e
+          → (get_or b o 0 ≡ 3) × (o + 8 ≤ length b) × (in_range n (link_fields b o) ≡ true) × (link_fields b o ≡ l)
       go true p = let z : ◌≡◌ {A = ℕ} 0 1 = cc in absurd (omega arith)
       go false p =
-          let w = record-gives b o 3 7 (fields (linkFields b o)) p in
-          let v = passed (in_range n (linkFields b o)) refl w.2 in
+          let w = record_gives b o 3 7 (fields (link_fields b o)) p in
+          let v = passed (in_range n (link_fields b o)) refl w.2 in
           (w.0, omega (arith, w.1), v.0, v.1)
 
 -- the four lists with a link stored at k
@@ -98,9 +98,9 @@ module _ (k : ℕ) (fs ts ls xs : List ℕ) (l : Link) (hf : k < length fs) (ht 
       ap (λ (n : ℕ). map stored_at (below n)) (add-one k)
       ∙ ap (map stored_at) (below_last k)
       ∙ map-append stored_at (below k) (k ∷ [])
-      ∙ ap₂ (λ (ys : List Link) (y : Link). ys ++ (y ∷ [])) (map-eq stored_at (held_at fs ts ls xs) (below k) (λ i m. stored_other i (in-below k m))) stored_here)
+      ∙ ap₂ (λ (ys : List Link) (y : Link). ys ++ (y ∷ [])) (map_eq stored_at (held_at fs ts ls xs) (below k) (λ i m. stored_other i (in_below k m))) stored_here)
 
-  last_more : some l ≡ lastHeld (k + 1) (set fs k l.from) (set ts k l.to) (set ls k l.load) (set xs k l.fraction)
+  last_more : some l ≡ last_held (k + 1) (set fs k l.from) (set ts k l.to) (set ls k l.load) (set xs k l.fraction)
   last_more = rw add-one (ap some (sym stored_here))
 
 pub record LinksSoFar (b : List ℕ) (start n : ℕ) (fs ts ls xs : List ℕ) (k o least : ℕ) : Type 0 where
@@ -110,12 +110,12 @@ pub record LinksSoFar (b : List ℕ) (start n : ℕ) (fs ts ls xs : List ℕ) (k
   pub loads : length ls ≡ 512
   pub fractions : length xs ≡ 512
   pub at : o ≡ start + 8 * k
-  pub order : (l : Link) → l.to < 256 → follows (lastHeld k fs ts ls xs) l ≡ leb least (key l)
-  pub rest : linksFrom 512 b start n none ≡ pushedAll (held k fs ts ls xs) (linksFrom (512 - k) b o n (lastHeld k fs ts ls xs))
+  pub order : (l : Link) → l.to < 256 → follows (last_held k fs ts ls xs) l ≡ leb least (key l)
+  pub rest : links_from 512 b start n none ≡ pushed_all (held k fs ts ls xs) (links_from (512 - k) b o n (last_held k fs ts ls xs))
 
 module _ {b : List ℕ} {start n : ℕ} {fs ts ls xs : List ℕ} where
-  pub so-far-none : (length fs ≡ 512) × (length ts ≡ 512) × (length ls ≡ 512) × (length xs ≡ 512) → LinksSoFar b start n fs ts ls xs 0 start 0
-  so-far-none h = record {
+  pub so_far_none : (length fs ≡ 512) × (length ts ≡ 512) × (length ls ≡ 512) × (length xs ≡ 512) → LinksSoFar b start n fs ts ls xs 0 start 0
+  so_far_none h = record {
     few = omega arith;
     froms = h.0;
     tos = h.1;
@@ -132,54 +132,54 @@ module _ {b : List ℕ} {start n : ℕ} {fs ts ls xs : List ℕ} where
     done = held k fs ts ls xs
 
     abbrev last : Option Link
-    last = lastHeld k fs ts ls xs
+    last = last_held k fs ts ls xs
 
     -- no more is taken: then a link that stands there is wrong
-    stop : ((l : Link) (e : ℕ) → item_at b o n ≡ read (link l) e → linksFrom (512 - k) b o n last ≡ wrong 4 o)
+    stop : ((l : Link) (e : ℕ) → item_at b o n ≡ read (link l) e → links_from (512 - k) b o n last ≡ wrong 4 o)
         → TakenHeld (record { count = k; behind = o }) b start n fs ts ls xs
     stop over = record { said = sym (h.rest ∙ go (item_at b o n) refl); room = h.few }
       where
-        go : (x : Read Item) → item_at b o n ≡ x → pushedAll done (linksFrom (512 - k) b o n last) ≡ stopped x o done
-        go (wrong m p) q = ap (pushedAll done) (links-stop b o n last (512 - k) q) ∙ pushed-wrong done m p
-        go (read theEnd e) q = ap (pushedAll done) (links_end b o n last (512 - k) q) ∙ pushed-end done e
-        go (read (link l) e) q = ap (pushedAll done) (over l e q) ∙ pushed-wrong done 4 o
+        go : (x : Read Item) → item_at b o n ≡ x → pushed_all done (links_from (512 - k) b o n last) ≡ stopped x o done
+        go (wrong m p) q = ap (pushed_all done) (links_stop b o n last (512 - k) q) ∙ pushed-wrong done m p
+        go (read the_end e) q = ap (pushed_all done) (links_end b o n last (512 - k) q) ∙ pushed_end done e
+        go (read (link l) e) q = ap (pushed_all done) (over l e q) ∙ pushed-wrong done 4 o
 
     -- for want of room: there stands no link, or it is one too many
-    pub so-far-full : {r : ℕ} → LinkRoom r b start → r ≤ k → TakenHeld (record { count = k; behind = o }) b start n fs ts ls xs
-    so-far-full {r} room p = stop (λ l e q. go (dec_lt k 512) l q)
+    pub so_far_full : {r : ℕ} → LinkRoom r b start → r ≤ k → TakenHeld (record { count = k; behind = o }) b start n fs ts ls xs
+    so_far_full {r} room p = stop (λ l e q. go (dec_lt k 512) l q)
       where
-        go : Dec (k < 512) → (l : Link) {e : ℕ} → item_at b o n ≡ read (link l) e → linksFrom (512 - k) b o n last ≡ wrong 4 o
-        go (yes a) l q = absurd (omega (arith, (item-link b o n q).1, room.ends k p a, h.at))
+        go : Dec (k < 512) → (l : Link) {e : ℕ} → item_at b o n ≡ read (link l) e → links_from (512 - k) b o n last ≡ wrong 4 o
+        go (yes a) l q = absurd (omega (arith, (item_link b o n q).1, room.ends k p a, h.at))
         go (no a) l q =
             let z : 512 - k ≡ 0 = omega (arith, h.few) in
-            ap (λ (m : ℕ). linksFrom m b o n last) z ∙ links-full b o n last q
+            ap (λ (m : ℕ). links_from m b o n last) z ∙ links-full b o n last q
 
-    module _ (fit : AreBytes b) {l : Link} {t : Bool} (is : l ≡ linkFields b o) (tested : t ≡ (leb least (key l) && (eqb (get_or b o 0) 3 && in_range n l))) where
+    module _ (fit : AreBytes b) {l : Link} {t : Bool} (is : l ≡ link_fields b o) (tested : t ≡ (leb least (key l) && (eqb (get_or b o 0) 3 && in_range n l))) where
       small : l.to < 256
       small = omega (arith, ap (λ (m : Link). m.to) is, fit (o + 2))
 
       -- it is none, or does not follow
-      pub so-far-stop : t ≡ false → TakenHeld (record { count = k; behind = o }) b start n fs ts ls xs
-      so-far-stop f = stop (λ m e q. low m q (item-link b o n q))
+      pub so_far_stop : t ≡ false → TakenHeld (record { count = k; behind = o }) b start n fs ts ls xs
+      so_far_stop f = stop (λ m e q. low m q (item_link b o n q))
         where
           low : (m : Link) {e : ℕ} → item_at b o n ≡ read (link m) e
-              → (get_or b o 0 ≡ 3) × (o + 8 ≤ length b) × (in_range n (linkFields b o) ≡ true) × (linkFields b o ≡ m)
-              → linksFrom (512 - k) b o n last ≡ wrong 4 o
+              → (get_or b o 0 ≡ 3) × (o + 8 ≤ length b) × (in_range n (link_fields b o) ≡ true) × (link_fields b o ≡ m)
+              → links_from (512 - k) b o n last ≡ wrong 4 o
           low m q w =
               let same : l ≡ m = is ∙ w.3 in
               let range : in_range n l ≡ true = ap (in_range n) is ∙ w.2 in
-              let under : leb least (key l) ≡ false = sym (and-true (leb least (key l)) (and-holds (eq-eqb (get_or b o 0) 3 w.0) range)) ∙ sym tested ∙ f in
+              let under : leb least (key l) ≡ false = sym (and_true (leb least (key l)) (and_holds (eq-eqb (get_or b o 0) 3 w.0) range)) ∙ sym tested ∙ f in
               links-low b o n last q (512 - k) (ap (follows last) (sym same) ∙ h.order l small ∙ under)
 
       pub so_far_more : {r v : ℕ} → LinkRoom r b start → k < r → t ≡ true → v ≡ key l
           → LinksSoFar b start n (set fs k l.from) (set ts k l.to) (set ls k l.load) (set xs k l.fraction) (k + 1) (o + 8) (v + 1)
       so_far_more {r} {v} room p f made =
-          let tests = and-gives (leb least (key l)) (eqb (get_or b o 0) 3 && in_range n l) (sym tested ∙ f) in
-          let two = and-gives (eqb (get_or b o 0) 3) (in_range n l) tests.1 in
+          let tests = and_gives (leb least (key l)) (eqb (get_or b o 0) 3 && in_range n l) (sym tested ∙ f) in
+          let two = and_gives (eqb (get_or b o 0) 3) (in_range n l) tests.1 in
           let kind : get_or b o 0 ≡ 3 = eqb-true (get_or b o 0) 3 two.0 in
           let space : o + 8 ≤ length b = omega (arith, room.fits k p, h.at) in
           let here : item_at b o n ≡ read (link l) (o + 8) =
-          item-taken b o n kind space (ap (in_range n) (sym is) ∙ two.1) ∙ ap (λ (m : Link). read (link m) (o + 8)) (sym is) in
+          item_taken b o n kind space (ap (in_range n) (sym is) ∙ two.1) ∙ ap (λ (m : Link). read (link m) (o + 8)) (sym is) in
           let follow : follows last l ≡ true = h.order l small ∙ tests.0 in
           let inside : k < 512 = omega (arith, p, room.cap) in
           let hf : k < length fs = omega (arith, inside, h.froms) in
@@ -194,26 +194,26 @@ module _ {b : List ℕ} {start n : ℕ} {fs ts ls xs : List ℕ} where
             loads = length-set ls k l.load ∙ h.loads;
             fractions = length-set xs k l.fraction ∙ h.fractions;
             at = omega (arith, h.at);
-            order = λ m q. ap (λ (before : Option Link). follows before m) (sym (last_more k fs ts ls xs l hf ht hl hx)) ∙ rw made (rises-by-key l m small q);
+            order = λ m q. ap (λ (before : Option Link). follows before m) (sym (last_more k fs ts ls xs l hf ht hl hx)) ∙ rw made (rises_by_key l m small q);
             rest =
                 h.rest
-                ∙ ap (λ (m : ℕ). pushedAll done (linksFrom m b o n last)) y
-                ∙ ap (pushedAll done) (links-on b o n last here (512 - (k + 1)) follow)
-                ∙ pushed-last done l (linksFrom (512 - (k + 1)) b (o + 8) n (some l))
-                ∙ λ i. pushedAll (held_more k fs ts ls xs l hf ht hl hx i) (linksFrom (512 - (k + 1)) b (o + 8) n (last_more k fs ts ls xs l hf ht hl hx i));
+                ∙ ap (λ (m : ℕ). pushed_all done (links_from m b o n last)) y
+                ∙ ap (pushed_all done) (links_on b o n last here (512 - (k + 1)) follow)
+                ∙ pushed_last done l (links_from (512 - (k + 1)) b (o + 8) n (some l))
+                ∙ λ i. pushed_all (held_more k fs ts ls xs l hf ht hl hx i) (links_from (512 - (k + 1)) b (o + 8) n (last_more k fs ts ls xs l hf ht hl hx i));
           }
 
 -- ---- the answer, by the item that stands behind the links taken
 module _ {b : List ℕ} {start n : ℕ} {fs ts ls xs : List ℕ} {r : LinksTaken} (h : TakenHeld r b start n fs ts ls xs)
-    {item : ItemRead} (q : itemReadSaid item ≡ item_at b r.behind n) where
-  by-item : {x : ItemRead} → item ≡ x → stopped (itemReadSaid x) r.behind (held r.count fs ts ls xs) ≡ linksFrom 512 b start n none
-  by-item c = ap (λ (y : Read Item). stopped y r.behind (held r.count fs ts ls xs)) (ap itemReadSaid (sym c) ∙ q) ∙ h.said
+    {item : ItemRead} (q : item_read_said item ≡ item_at b r.behind n) where
+  by_item_lem : {x : ItemRead} → item ≡ x → stopped (item_read_said x) r.behind (held r.count fs ts ls xs) ≡ links_from 512 b start n none
+  by_item_lem c = ap (λ (y : Read Item). stopped y r.behind (held r.count fs ts ls xs)) (ap item_read_said (sym c) ∙ q) ∙ h.said
 
   pub links-wrong : {m p : ℕ} → item ≡ ItemRead.Wrong m p → LinksHeld (LinksRead.Wrong m p) b start n fs ts ls xs
-  links-wrong c = record { said = by-item c; room = tt }
+  links-wrong c = record { said = by_item_lem c; room = tt }
 
-  pub links-ended : {e : ℕ} → item ≡ ItemRead.End e → LinksHeld (LinksRead.Read r.count e) b start n fs ts ls xs
-  links-ended c = record { said = by-item c; room = h.room }
+  pub links_ended : {e : ℕ} → item ≡ ItemRead.End e → LinksHeld (LinksRead.Read r.count e) b start n fs ts ls xs
+  links_ended c = record { said = by_item_lem c; room = h.room }
 
   pub links-over : {f t d e : ℕ} {x : Fraction} → item ≡ ItemRead.Link f t d x e → LinksHeld (LinksRead.Wrong 4 r.behind) b start n fs ts ls xs
-  links-over c = record { said = by-item c; room = tt }
+  links-over c = record { said = by_item_lem c; room = tt }

@@ -1,8 +1,8 @@
 // A sheet's records, read from its bytes into slices that the caller lends.
 ghost use Rattle.std.specs.Prelude.{◌≡◌, ◌&&◌, ◌+◌, ◌*◌, ◌≤◌, ◌<◌, length, get_or, leb, eqb};
 ghost use Rattle.rules.specs.Bytes.{four};
-ghost use Rattle.rules.specs.Check.{word_at, headRight, headFields, headAt, nodeAt, in_range, linkFields, item_at, sheetAt, sheetAlone};
-ghost use Rattle.sheet.specs.Held.{recordFault, headSaid, headReadSaid, nodeReadSaid, NodesHeld, linkSaid, itemReadSaid, key_of, LinkRoom, TakenHeld, LinksHeld, Lent, SheetGiven, copied, patched, Filled, WriteAsked, FractionsWritten};
+ghost use Rattle.rules.specs.Check.{word_at, head_right, head_fields, head_at, node_at, in_range, link_fields, item_at, sheet_at, sheet_alone};
+ghost use Rattle.sheet.specs.Held.{record_fault, head_said, head_read_said, node_read_said, NodesHeld, link_said, item_read_said, key_of, LinkRoom, TakenHeld, LinksHeld, Lent, SheetGiven, copied, patched, Filled, WriteAsked, FractionsWritten};
 
 use numbers::{Fraction, Step, Traffic};
 
@@ -98,7 +98,7 @@ fn kind_at(b: &[u8], o: usize) -> u8
 
 // What is wrong with a record before its fields are looked at, 0 if nothing.
 fn record_fault(b: &[u8], o: usize, kind: u8, body: usize) -> u8
-    ensures { (result ≡ recordFault b.now o kind body) × (result ≡ 0 → o + 1 + body ≤ length b.now) }
+    ensures { (result ≡ record_fault b.now o kind body) × (result ≡ 0 → o + 1 + body ≤ length b.now) }
 {
     if b.len() <= o {
         return 1;
@@ -113,7 +113,7 @@ fn record_fault(b: &[u8], o: usize, kind: u8, body: usize) -> u8
 
 fn head_fields(b: &[u8], o: usize) -> HeadHeld
     requires { o + 7 ≤ length b.now }
-    ensures { headSaid result ≡ headFields b.now o }
+    ensures { head_said result ≡ head_fields b.now o }
 {
     let s = word_at(b, o + 3);
     HeadHeld {
@@ -124,7 +124,7 @@ fn head_fields(b: &[u8], o: usize) -> HeadHeld
 }
 
 fn is_head_right(h: HeadHeld) -> bool
-    ensures { result ≡ headRight (headSaid h) }
+    ensures { result ≡ head_right (head_said h) }
 {
     if h.nodes < 2 {
         return false;
@@ -142,7 +142,7 @@ fn is_head_right(h: HeadHeld) -> bool
 }
 
 fn head_at(b: &[u8], o: usize) -> HeadRead
-    ensures { headReadSaid result ≡ headAt b.now o }
+    ensures { head_read_said result ≡ head_at b.now o }
 {
     let fault = record_fault(b, o, 1, 6);
     if fault != 0 {
@@ -157,7 +157,7 @@ fn head_at(b: &[u8], o: usize) -> HeadRead
 }
 
 fn node_at(b: &[u8], o: usize, i: u8) -> NodeRead
-    ensures { nodeReadSaid result ≡ nodeAt b.now o i }
+    ensures { node_read_said result ≡ node_at b.now o i }
 {
     let fault = record_fault(b, o, 2, 5);
     if fault != 0 {
@@ -173,7 +173,7 @@ fn node_at(b: &[u8], o: usize, i: u8) -> NodeRead
 
 fn link_fields(b: &[u8], o: usize) -> LinkHeld
     requires { o + 8 ≤ length b.now }
-    ensures { linkSaid result ≡ linkFields b.now o }
+    ensures { link_said result ≡ link_fields b.now o }
 {
     let f = word_at(b, o + 4);
     LinkHeld {
@@ -185,7 +185,7 @@ fn link_fields(b: &[u8], o: usize) -> LinkHeld
 }
 
 fn is_in_range(n: u8, l: LinkHeld) -> bool
-    ensures { result ≡ in_range n (linkSaid l) }
+    ensures { result ≡ in_range n (link_said l) }
 {
     if n <= l.from {
         return false;
@@ -200,7 +200,7 @@ fn is_in_range(n: u8, l: LinkHeld) -> bool
 }
 
 fn item_at(b: &[u8], o: usize, n: u8) -> ItemRead
-    ensures { itemReadSaid result ≡ item_at b.now o n }
+    ensures { item_read_said result ≡ item_at b.now o n }
 {
     if kind_at(b, o) == 9 {
         let past = o + 1;
@@ -252,7 +252,7 @@ fn key_of(from: u8, to: u8) -> u32
 
 // Is it a link record, in range and not below the least key that may come?
 fn is_next(least: u32, kind: u8, n: u8, l: LinkHeld) -> bool
-    ensures { result ≡ (leb least (key_of l.from l.to) && (eqb kind 3 && in_range n (linkSaid l))) }
+    ensures { result ≡ (leb least (key_of l.from l.to) && (eqb kind 3 && in_range n (link_said l))) }
 {
     if key_of(l.from, l.to) < least {
         return false;
@@ -350,7 +350,7 @@ pub fn read_sheet(
     fraction: &mut [u32],
 ) -> SheetRead
     requires { Lent traffic.old from.old to.old load.old fraction.old }
-    ensures { SheetGiven result (sheetAt b.now start) traffic.new from.new to.new load.new fraction.new }
+    ensures { SheetGiven result (sheet_at b.now start) traffic.new from.new to.new load.new fraction.new }
 {
     let head = head_at(b, start);
     match head {
@@ -383,7 +383,7 @@ pub fn read_alone(
     fraction: &mut [u32],
 ) -> SheetRead
     requires { Lent traffic.old from.old to.old load.old fraction.old }
-    ensures { SheetGiven result (sheetAlone b.now) traffic.new from.new to.new load.new fraction.new }
+    ensures { SheetGiven result (sheet_alone b.now) traffic.new from.new to.new load.new fraction.new }
 {
     let sheet = read_sheet(b, 0, traffic, from, to, load, fraction);
     match sheet {

@@ -1,5 +1,5 @@
 use borrow.Author.Rules.{rules}
-use Rattle.admit.proofs.Judging.{room-kept, room-ordered, judged-6, judged-7, judged-8, judged-fine, order-asked}
+use Rattle.admit.proofs.Judging.{room-kept, room-ordered, judged_6, judged_7, judged_8, judged_fine, order-asked}
 use Rattle.admit.proofs.judge_whole.Statement.{statement}
 use Rattle.admit.proofs.judge_whole.Tie as tie
 
@@ -26,7 +26,7 @@ same-length-4 c = search rules
 
 returns : tie.Need-returns
 returns c =
-    judged-6 c.before.before.before.before.before.before.before.before.before.before.before.before.before.before.before.before.before.before.before.before.before.before.before.before.before.before.before.before.before.args.h (room-kept c.before.before.before.before.before.before.before.before.before.before.before.before.before.before.before.before.before.before.before.before.before.before.before.before.before.before.before.before.before.requires.1 c.before.before.before.before.before.before.before.before.before.before.before.before.before.before.survey.ensures c.before.before.before.before.before.pair-links.ensures) c.before.before.before.before.before.pair-links.ensures c.before.alone.given.1
+    judged_6 c.before.before.before.before.before.before.before.before.before.before.before.before.before.before.before.before.before.before.before.before.before.before.before.before.before.before.before.before.before.args.h (room-kept c.before.before.before.before.before.before.before.before.before.before.before.before.before.before.before.before.before.before.before.before.before.before.before.before.before.before.before.before.before.requires.1 c.before.before.before.before.before.before.before.before.before.before.before.before.before.before.survey.ensures c.before.before.before.before.before.pair-links.ensures) c.before.before.before.before.before.pair-links.ensures c.before.alone.given.1
 
 enum_told : tie.Need-enum-told
 enum_told c = search rules
@@ -48,7 +48,7 @@ same-length-8 c = search rules
 
 returns-2 : tie.Need-returns-2
 returns-2 c =
-    judged-7 c.before.before.before.before.before.before.before.before.before.before.before.before.before.before.before.before.before.before.before.before.before.before.before.before.before.before.before.before.before.before.before.args.h (room-kept c.before.before.before.before.before.before.before.before.before.before.before.before.before.before.before.before.before.before.before.before.before.before.before.before.before.before.before.before.before.before.before.requires.1 c.before.before.before.before.before.before.before.before.before.before.before.before.before.before.before.before.survey.ensures c.before.before.before.before.before.before.before.pair-links.ensures) c.before.before.before.before.before.before.before.pair-links.ensures c.before.before.before.before.before.before.before.before.before.before.before.before.before.before.before.before.survey.ensures c.before.before.before.enum_told.given.1 c.before.wrong.given.1
+    judged_7 c.before.before.before.before.before.before.before.before.before.before.before.before.before.before.before.before.before.before.before.before.before.before.before.before.before.before.before.before.before.before.before.args.h (room-kept c.before.before.before.before.before.before.before.before.before.before.before.before.before.before.before.before.before.before.before.before.before.before.before.before.before.before.before.before.before.before.before.requires.1 c.before.before.before.before.before.before.before.before.before.before.before.before.before.before.before.before.survey.ensures c.before.before.before.before.before.before.before.pair-links.ensures) c.before.before.before.before.before.before.before.pair-links.ensures c.before.before.before.before.before.before.before.before.before.before.before.before.before.before.before.before.survey.ensures c.before.before.before.enum_told.given.1 c.before.wrong.given.1
 
 enum-told-2 : tie.Need-enum-told-2
 enum-told-2 c = search rules
@@ -81,7 +81,7 @@ same-length-14 : tie.Need-same-length-14
 same-length-14 c = search rules
 
 returns-3 : tie.Need-returns-3
-returns-3 c = judged-8 c.before.before.before.before.before.before.before.before.before.before.before.before.before.before.before.before.before.before.before.before.before.before.before.before.before.before.before.before.before.before.before.before.before.before.before.before.before.before.before.before.before.before.before.args.h (room-ordered (room-kept c.before.before.before.before.before.before.before.before.before.before.before.before.before.before.before.before.before.before.before.before.before.before.before.before.before.before.before.before.before.before.before.before.before.before.before.before.before.before.before.before.before.before.before.requires.1 c.before.before.before.before.before.before.before.before.before.before.before.before.before.before.before.before.before.before.before.before.before.before.before.before.before.before.before.before.survey.ensures c.before.before.before.before.before.before.before.before.before.before.before.before.before.before.before.before.before.before.before.pair-links.ensures) c.before.before.before.before.before.before.before.find-order.ensures) c.before.before.before.before.before.before.before.before.before.before.before.before.before.before.before.before.before.before.before.pair-links.ensures c.before.before.before.before.before.before.before.before.before.before.before.before.before.before.before.before.before.before.before.before.before.before.before.before.before.before.before.before.survey.ensures c.before.before.before.before.before.before.before.before.before.before.before.before.before.before.before.enum_told.given.1 c.before.before.before.before.before.before.before.before.before.before.before.before.before.enum-told2.given.1 c.before.before.before.before.before.before.before.find-order.ensures c.before.looped.given.1
+returns-3 c = judged_8 c.before.before.before.before.before.before.before.before.before.before.before.before.before.before.before.before.before.before.before.before.before.before.before.before.before.before.before.before.before.before.before.before.before.before.before.before.before.before.before.before.before.before.before.args.h (room-ordered (room-kept c.before.before.before.before.before.before.before.before.before.before.before.before.before.before.before.before.before.before.before.before.before.before.before.before.before.before.before.before.before.before.before.before.before.before.before.before.before.before.before.before.before.before.before.requires.1 c.before.before.before.before.before.before.before.before.before.before.before.before.before.before.before.before.before.before.before.before.before.before.before.before.before.before.before.before.survey.ensures c.before.before.before.before.before.before.before.before.before.before.before.before.before.before.before.before.before.before.before.pair-links.ensures) c.before.before.before.before.before.before.before.find-order.ensures) c.before.before.before.before.before.before.before.before.before.before.before.before.before.before.before.before.before.before.before.pair-links.ensures c.before.before.before.before.before.before.before.before.before.before.before.before.before.before.before.before.before.before.before.before.before.before.before.before.before.before.before.before.survey.ensures c.before.before.before.before.before.before.before.before.before.before.before.before.before.before.before.enum_told.given.1 c.before.before.before.before.before.before.before.before.before.before.before.before.before.enum-told2.given.1 c.before.before.before.before.before.before.before.find-order.ensures c.before.looped.given.1
 
 same-length-15 : tie.Need-same-length-15
 same-length-15 c = search rules
@@ -102,7 +102,7 @@ same-length-20 : tie.Need-same-length-20
 same-length-20 c = search rules
 
 returns-4 : tie.Need-returns-4
-returns-4 c = judged-fine c.before.before.before.before.before.before.before.before.before.before.before.before.before.before.before.before.before.before.before.before.before.before.before.before.before.before.before.before.before.before.before.before.before.before.before.before.before.before.before.before.before.before.args.h (room-ordered (room-kept c.before.before.before.before.before.before.before.before.before.before.before.before.before.before.before.before.before.before.before.before.before.before.before.before.before.before.before.before.before.before.before.before.before.before.before.before.before.before.before.before.before.before.requires.1 c.before.before.before.before.before.before.before.before.before.before.before.before.before.before.before.before.before.before.before.before.before.before.before.before.before.before.before.survey.ensures c.before.before.before.before.before.before.before.before.before.before.before.before.before.before.before.before.before.before.pair-links.ensures) c.before.before.before.before.before.before.find-order.ensures) c.before.before.before.before.before.before.before.before.before.before.before.before.before.before.before.before.before.before.pair-links.ensures c.before.before.before.before.before.before.before.before.before.before.before.before.before.before.before.before.before.before.before.before.before.before.before.before.before.before.before.survey.ensures c.before.before.before.before.before.before.before.before.before.before.before.before.before.before.enum_told.given.1 c.before.before.before.before.before.before.before.before.before.before.before.before.enum-told2.given.1 c.before.before.before.before.before.before.find-order.ensures c.enum-told3.given.1
+returns-4 c = judged_fine c.before.before.before.before.before.before.before.before.before.before.before.before.before.before.before.before.before.before.before.before.before.before.before.before.before.before.before.before.before.before.before.before.before.before.before.before.before.before.before.before.before.before.args.h (room-ordered (room-kept c.before.before.before.before.before.before.before.before.before.before.before.before.before.before.before.before.before.before.before.before.before.before.before.before.before.before.before.before.before.before.before.before.before.before.before.before.before.before.before.before.before.before.requires.1 c.before.before.before.before.before.before.before.before.before.before.before.before.before.before.before.before.before.before.before.before.before.before.before.before.before.before.before.survey.ensures c.before.before.before.before.before.before.before.before.before.before.before.before.before.before.before.before.before.before.pair-links.ensures) c.before.before.before.before.before.before.find-order.ensures) c.before.before.before.before.before.before.before.before.before.before.before.before.before.before.before.before.before.before.pair-links.ensures c.before.before.before.before.before.before.before.before.before.before.before.before.before.before.before.before.before.before.before.before.before.before.before.before.before.before.before.survey.ensures c.before.before.before.before.before.before.before.before.before.before.before.before.before.before.enum_told.given.1 c.before.before.before.before.before.before.before.before.before.before.before.before.enum-told2.given.1 c.before.before.before.before.before.before.find-order.ensures c.enum-told3.given.1
 
 pub judge-whole-spec : {M : Type 1} → statement M
 judge-whole-spec =

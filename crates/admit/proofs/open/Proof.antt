@@ -1,5 +1,5 @@
 use native.Mathlib.Omega.{arith}
-use Rattle.admit.proofs.Judging.{judge-asked, opened-wrong, opened}
+use Rattle.admit.proofs.Judging.{judge-asked, opened_wrong, opened}
 use borrow.Author.Rules.{rules}
 use Rattle.admit.proofs.open.Statement.{statement}
 use Rattle.admit.proofs.open.Tie as tie
@@ -46,7 +46,7 @@ same-length-5 c = search rules
 
 -- src/lib.rt:56:1
 returns : tie.Need-returns
-returns c = opened-wrong c.before.before.before.before.before.before.before.before.before.before.before.before.before.before.before.before.before.before.before.before.before.before.before.before.before.before.before.before.before.before.before.args.b.now (λ i. omega (arith, c.before.before.before.before.before.before.before.before.before.before.before.before.before.before.before.before.before.before.before.before.before.before.before.before.before.before.before.before.before.before.shared-slice-known.given i)) c.before.before.before.before.before.before.before.before.before.before.before.before.before.read-alone.ensures c.before.sheet.given.1 c.before.before.before.before.before.before.before.before.before.before.before.before.before.before.before.before.before.before.before.before.before.before.before.before.before.before.before.before.before.before.before.requires.1
+returns c = opened_wrong c.before.before.before.before.before.before.before.before.before.before.before.before.before.before.before.before.before.before.before.before.before.before.before.before.before.before.before.before.before.before.before.args.b.now (λ i. omega (arith, c.before.before.before.before.before.before.before.before.before.before.before.before.before.before.before.before.before.before.before.before.before.before.before.before.before.before.before.before.before.before.shared-slice-known.given i)) c.before.before.before.before.before.before.before.before.before.before.before.before.before.read-alone.ensures c.before.sheet.given.1 c.before.before.before.before.before.before.before.before.before.before.before.before.before.before.before.before.before.before.before.before.before.before.before.before.before.before.before.before.before.before.before.requires.1
 
 -- src/lib.rt:56:1
 same-length-6 : tie.Need-same-length-6

@@ -3,7 +3,7 @@ use mathlib.Core.List.{[]}
 use lib.ListN.{length}
 use Rattle.rules.specs.Calls.{answer}
 use Rattle.answers.specs.Answers.{numbers}
-use Rattle.calls.proofs.Replies.{refused-number, refused-reply, links-reply}
+use Rattle.calls.proofs.Replies.{refused-number, refused_reply, links_reply}
 use borrow.Author.Rules.{rules}
 use Rattle.calls.proofs.check.Statement.{statement}
 use Rattle.calls.proofs.check.Tie as tie
@@ -74,11 +74,11 @@ enum-known-opened-2 c = search rules
 
 -- src/lib.rt:62:1
 returns : tie.Need-returns
-returns c = c.refused.ensures ∙ ap numbers (sym (refused-reply c.before.before.before.before.before.before.before.before.before.before.before.before.before.before.before.before.before.before.before.before.before.before.before.before.before.before.before.before.args.sheet.now c.before.before.before.before.before.before.before.before.before.before.before.before.before.before.before.«open».ensures c.before.before.opened.given.1 (λ s. answer (length s.links) [])))
+returns c = c.refused.ensures ∙ ap numbers (sym (refused_reply c.before.before.before.before.before.before.before.before.before.before.before.before.before.before.before.before.before.before.before.before.before.before.before.before.before.before.before.before.args.sheet.now c.before.before.before.before.before.before.before.before.before.before.before.before.before.before.before.«open».ensures c.before.before.opened.given.1 (λ s. answer (length s.links) [])))
 
 -- src/lib.rt:62:1
 returns-2 : tie.Need-returns-2
-returns-2 c = ap numbers (sym (links-reply c.before.before.before.before.before.before.before.before.before.before.before.before.before.before.before.before.before.before.before.before.before.before.before.before.before.before.before.args.sheet.now c.before.before.before.before.before.before.before.before.before.before.before.before.before.before.«open».ensures c.before.opened2.given.1))
+returns-2 c = ap numbers (sym (links_reply c.before.before.before.before.before.before.before.before.before.before.before.before.before.before.before.before.before.before.before.before.before.before.before.before.before.before.before.args.sheet.now c.before.before.before.before.before.before.before.before.before.before.before.before.before.before.«open».ensures c.before.opened2.given.1))
 
 pub check-spec : {M : Type 1} → statement M
 check-spec =

@@ -1,6 +1,6 @@
 use native.Mathlib.Omega.{arith}
 use lib.ListN.{length}
-use Rattle.calls.proofs.Replies.{refused-number, is-ready, answered-refused, next-refused, next-short, next-answered}
+use Rattle.calls.proofs.Replies.{refused-number, is_ready, answered_refused, next-refused, next_short, next_answered}
 use borrow.Author.Rules.{rules}
 use Rattle.calls.proofs.next.Statement.{statement}
 use Rattle.calls.proofs.next.Tie as tie
@@ -76,7 +76,7 @@ refused-requires-2 c κs = search rules
 
 -- src/lib.rt:186:17
 returns : tie.Need-returns
-returns c = answered-refused c.before.before.before.before.before.before.before.before.before.before.before.before.before.before.before.before.before.before.before.before.before.before.before.before.before.before.before.before.before.before.args.out.now c.refused2.ensures (next-short c.before.before.before.before.before.before.before.before.before.before.before.before.before.before.before.before.before.before.before.before.before.before.before.before.before.before.before.before.before.before.args.sheet.now c.before.before.before.before.before.before.before.before.before.before.before.before.before.before.before.before.«open».ensures (length c.before.before.before.before.before.before.before.before.before.before.before.before.before.before.before.before.before.before.before.before.before.before.before.before.before.before.before.before.before.before.args.out.now) c.before.before.before.opened2.given.1 c.before.if1.true)
+returns c = answered_refused c.before.before.before.before.before.before.before.before.before.before.before.before.before.before.before.before.before.before.before.before.before.before.before.before.before.before.before.before.before.before.args.out.now c.refused2.ensures (next_short c.before.before.before.before.before.before.before.before.before.before.before.before.before.before.before.before.before.before.before.before.before.before.before.before.before.before.before.before.before.before.args.sheet.now c.before.before.before.before.before.before.before.before.before.before.before.before.before.before.before.before.«open».ensures (length c.before.before.before.before.before.before.before.before.before.before.before.before.before.before.before.before.before.before.before.before.before.before.before.before.before.before.before.before.before.before.args.out.now) c.before.before.before.opened2.given.1 c.before.if1.true)
 
 -- src/lib.rt:191:17
 slice-aggregate-write-next : tie.Need-slice-aggregate-write-next
@@ -113,11 +113,11 @@ slice-aggregate-write-next-8 c = search rules
 -- src/lib.rt:188:13
 write-next-requires : tie.Need-write-next-requires
 write-next-requires c κs =
-    (record { fs = _; ts = _; turn = _; ready = is-ready c.before.before.before.before.before.before.before.before.before.before.before.before.before.before.before.before.before.before.before.before.before.before.before.before.before.before.before.before.before.before.before.before.before.before.before.before.before.before.args.sheet.now c.before.before.before.before.before.before.before.before.before.before.before.before.before.before.before.before.before.before.before.before.before.before.before.before.«open».ensures c.before.before.before.before.before.before.before.before.before.before.before.opened2.given.1 }, c.before.before.before.before.before.before.before.before.before.if1.false)
+    (record { fs = _; ts = _; turn = _; ready = is_ready c.before.before.before.before.before.before.before.before.before.before.before.before.before.before.before.before.before.before.before.before.before.before.before.before.before.before.before.before.before.before.before.before.before.before.before.before.before.before.args.sheet.now c.before.before.before.before.before.before.before.before.before.before.before.before.before.before.before.before.before.before.before.before.before.before.before.before.«open».ensures c.before.before.before.before.before.before.before.before.before.before.before.opened2.given.1 }, c.before.before.before.before.before.before.before.before.before.if1.false)
 
 -- src/lib.rt:153:1
 returns-2 : tie.Need-returns-2
-returns-2 c = answered-refused c.before.before.before.before.before.before.before.before.before.before.before.before.before.before.before.before.before.before.before.before.before.before.before.before.before.before.before.before.before.args.out.now c.refused.ensures (next-refused c.before.before.before.before.before.before.before.before.before.before.before.before.before.before.before.before.before.before.before.before.before.before.before.before.before.before.before.before.before.args.sheet.now c.before.before.before.before.before.before.before.before.before.before.before.before.before.before.before.«open».ensures (length c.before.before.before.before.before.before.before.before.before.before.before.before.before.before.before.before.before.before.before.before.before.before.before.before.before.before.before.before.before.args.out.now) c.before.before.opened.given.1)
+returns-2 c = answered_refused c.before.before.before.before.before.before.before.before.before.before.before.before.before.before.before.before.before.before.before.before.before.before.before.before.before.before.before.before.before.args.out.now c.refused.ensures (next-refused c.before.before.before.before.before.before.before.before.before.before.before.before.before.before.before.before.before.before.before.before.before.before.before.before.before.before.before.before.before.args.sheet.now c.before.before.before.before.before.before.before.before.before.before.before.before.before.before.before.«open».ensures (length c.before.before.before.before.before.before.before.before.before.before.before.before.before.before.before.before.before.before.before.before.before.before.before.before.before.before.before.before.before.args.out.now) c.before.before.opened.given.1)
 
 -- src/lib.rt:153:1
 same_length : tie.Need-same-length
@@ -126,8 +126,8 @@ same_length c = search rules
 -- src/lib.rt:153:1
 returns-3 : tie.Need-returns-3
 returns-3 c =
-    let ready = is-ready c.before.before.before.before.before.before.before.before.before.before.before.before.before.before.before.before.before.before.before.before.before.before.before.before.before.before.before.before.before.before.before.before.before.before.before.before.before.before.before.before.before.before.args.sheet.now c.before.before.before.before.before.before.before.before.before.before.before.before.before.before.before.before.before.before.before.before.before.before.before.before.before.before.before.before.«open».ensures c.before.before.before.before.before.before.before.before.before.before.before.before.before.before.before.opened2.given.1 in
-    next-answered c.before.before.before.before.before.before.before.before.before.before.before.before.before.before.before.before.before.before.before.before.before.before.before.before.before.before.before.before.before.before.before.before.before.before.before.before.before.before.before.before.before.before.args.sheet.now c.before.before.before.before.before.before.before.before.before.before.before.before.before.before.before.before.before.before.before.before.before.before.before.before.before.before.before.before.«open».ensures (length c.before.before.before.before.before.before.before.before.before.before.before.before.before.before.before.before.before.before.before.before.before.before.before.before.before.before.before.before.before.before.before.before.before.before.before.before.before.before.before.before.before.before.args.out.now) c.before.before.before.before.before.before.before.before.before.before.before.before.before.before.before.opened2.given.1 (λ i. omega (arith, c.before.before.before.before.before.before.before.before.before.before.before.before.before.before.before.before.before.before.before.before.before.before.before.before.before.before.before.before.before.before.before.before.before.before.before.before.before.before.before.before.before.shared-slice-known.given i)) c.before.before.before.before.before.before.before.before.before.before.before.before.before.before.before.before.before.before.before.before.before.before.before.before.before.before.before.before.before.before.before.before.before.before.before.before.before.before.before.before.before.before.args.out.now _ c.before.before.before.before.before.before.before.before.before.before.before.before.before.if1.false (c.before.before.before.write-next.ensures.said _ _ _ ready)
+    let ready = is_ready c.before.before.before.before.before.before.before.before.before.before.before.before.before.before.before.before.before.before.before.before.before.before.before.before.before.before.before.before.before.before.before.before.before.before.before.before.before.before.before.before.before.before.args.sheet.now c.before.before.before.before.before.before.before.before.before.before.before.before.before.before.before.before.before.before.before.before.before.before.before.before.before.before.before.before.«open».ensures c.before.before.before.before.before.before.before.before.before.before.before.before.before.before.before.opened2.given.1 in
+    next_answered c.before.before.before.before.before.before.before.before.before.before.before.before.before.before.before.before.before.before.before.before.before.before.before.before.before.before.before.before.before.before.before.before.before.before.before.before.before.before.before.before.before.before.args.sheet.now c.before.before.before.before.before.before.before.before.before.before.before.before.before.before.before.before.before.before.before.before.before.before.before.before.before.before.before.before.«open».ensures (length c.before.before.before.before.before.before.before.before.before.before.before.before.before.before.before.before.before.before.before.before.before.before.before.before.before.before.before.before.before.before.before.before.before.before.before.before.before.before.before.before.before.before.args.out.now) c.before.before.before.before.before.before.before.before.before.before.before.before.before.before.before.opened2.given.1 (λ i. omega (arith, c.before.before.before.before.before.before.before.before.before.before.before.before.before.before.before.before.before.before.before.before.before.before.before.before.before.before.before.before.before.before.before.before.before.before.before.before.before.before.before.before.before.shared-slice-known.given i)) c.before.before.before.before.before.before.before.before.before.before.before.before.before.before.before.before.before.before.before.before.before.before.before.before.before.before.before.before.before.before.before.before.before.before.before.before.before.before.before.before.before.before.args.out.now _ c.before.before.before.before.before.before.before.before.before.before.before.before.before.if1.false (c.before.before.before.write-next.ensures.said _ _ _ ready)
 
 pub next-spec : {M : Type 1} → statement M
 next-spec =

@@ -1,7 +1,7 @@
 use lib.ListN.{length}
 use Rattle.rules.proofs.Demands.{play-numbers}
-use Rattle.play.proofs.Replies.{play-reply}
-use Rattle.calls.proofs.Replies.{refused-number, is-ready, answered-refused, said-small, said-answered, play-refused, play-short}
+use Rattle.play.proofs.Replies.{play_reply_lem}
+use Rattle.calls.proofs.Replies.{refused-number, is_ready, answered_refused, said-small, said_answered, play-refused, play_short}
 use borrow.Author.Rules.{rules}
 use Rattle.calls.proofs.play.Statement.{statement}
 use Rattle.calls.proofs.play.Tie as tie
@@ -78,7 +78,7 @@ refused-requires-2 c κs = search rules
 
 -- src/lib.rt:306:17
 returns : tie.Need-returns
-returns c = answered-refused c.before.before.before.before.before.before.before.before.before.before.before.before.before.before.before.before.before.before.before.before.before.before.before.before.before.before.before.before.before.before.before.args.out.now c.refused2.ensures (play-short c.before.before.before.before.before.before.before.before.before.before.before.before.before.before.before.before.before.before.before.before.before.before.before.before.before.before.before.before.before.before.before.args.sheet.now c.before.before.before.before.before.before.before.before.before.before.before.before.before.before.before.before.«open».ensures c.before.before.before.before.before.before.before.before.before.before.before.before.before.before.before.before.before.before.before.before.before.before.before.before.before.before.before.before.before.before.before.args.list.now (length c.before.before.before.before.before.before.before.before.before.before.before.before.before.before.before.before.before.before.before.before.before.before.before.before.before.before.before.before.before.before.before.args.out.now) c.before.before.before.opened2.given.1 c.before.if1.true)
+returns c = answered_refused c.before.before.before.before.before.before.before.before.before.before.before.before.before.before.before.before.before.before.before.before.before.before.before.before.before.before.before.before.before.before.before.args.out.now c.refused2.ensures (play_short c.before.before.before.before.before.before.before.before.before.before.before.before.before.before.before.before.before.before.before.before.before.before.before.before.before.before.before.before.before.before.before.args.sheet.now c.before.before.before.before.before.before.before.before.before.before.before.before.before.before.before.before.«open».ensures c.before.before.before.before.before.before.before.before.before.before.before.before.before.before.before.before.before.before.before.before.before.before.before.before.before.before.before.before.before.before.before.args.list.now (length c.before.before.before.before.before.before.before.before.before.before.before.before.before.before.before.before.before.before.before.before.before.before.before.before.before.before.before.before.before.before.before.args.out.now) c.before.before.before.opened2.given.1 c.before.if1.true)
 
 -- src/lib.rt:312:17
 slice-aggregate-play-accepted : tie.Need-slice-aggregate-play-accepted
@@ -118,17 +118,17 @@ slice-aggregate-play-accepted-9 c = search rules
 
 play-accepted-requires : tie.Need-play-accepted-requires
 play-accepted-requires c κs =
-    (record { ts = _; ord = _; turn = _; ready = is-ready c.before.before.before.before.before.before.before.before.before.before.before.before.before.before.before.before.before.before.before.before.before.before.before.before.before.before.before.before.before.before.before.before.before.before.before.before.before.before.before.before.args.sheet.now c.before.before.before.before.before.before.before.before.before.before.before.before.before.before.before.before.before.before.before.before.before.before.before.before.before.«open».ensures c.before.before.before.before.before.before.before.before.before.before.before.before.opened2.given.1 }, c.before.before.before.before.before.before.before.before.before.before.if1.false, search rules)
+    (record { ts = _; ord = _; turn = _; ready = is_ready c.before.before.before.before.before.before.before.before.before.before.before.before.before.before.before.before.before.before.before.before.before.before.before.before.before.before.before.before.before.before.before.before.before.before.before.before.before.before.before.before.args.sheet.now c.before.before.before.before.before.before.before.before.before.before.before.before.before.before.before.before.before.before.before.before.before.before.before.before.before.«open».ensures c.before.before.before.before.before.before.before.before.before.before.before.before.opened2.given.1 }, c.before.before.before.before.before.before.before.before.before.before.if1.false, search rules)
 
 -- src/lib.rt:322:13
 answer-of-requires : tie.Need-answer-of-requires
 answer-of-requires c κs =
-    let ready = is-ready c.before.before.before.before.before.before.before.before.before.before.before.before.before.before.before.before.before.before.before.before.before.before.before.before.before.before.before.before.before.before.before.before.before.before.before.before.before.before.before.before.before.before.before.before.args.sheet.now c.before.before.before.before.before.before.before.before.before.before.before.before.before.before.before.before.before.before.before.before.before.before.before.before.before.before.before.before.before.«open».ensures c.before.before.before.before.before.before.before.before.before.before.before.before.before.before.before.before.opened2.given.1 in
-    said-small (c.before.before.before.play-accepted.ensures.said ready) (play-reply ready c.before.before.before.before.before.before.before.before.before.before.before.before.before.before.before.before.before.before.before.before.before.before.before.before.before.before.before.before.before.before.before.before.before.before.before.before.before.before.before.before.before.before.before.before.args.list.now (length c.before.before.before.before.before.before.before.before.before.before.before.before.before.before.before.before.before.before.before.before.before.before.before.before.before.before.before.before.before.before.before.before.before.before.before.before.before.before.before.before.before.before.before.before.args.out.now) c.before.before.before.before.before.before.before.before.before.before.before.before.before.before.if1.false) (play-numbers c.before.before.before.before.before.before.before.before.before.before.before.before.before.before.before.before.before.before.before.before.before.before.before.before.before.before.before.before.before.before.before.before.before.before.before.before.before.before.before.before.before.before.before.before.args.sheet.now c.before.before.before.before.before.before.before.before.before.before.before.before.before.before.before.before.before.before.before.before.before.before.before.before.before.before.before.before.before.before.before.before.before.before.before.before.before.before.before.before.before.before.before.before.args.list.now (length c.before.before.before.before.before.before.before.before.before.before.before.before.before.before.before.before.before.before.before.before.before.before.before.before.before.before.before.before.before.before.before.before.before.before.before.before.before.before.before.before.before.before.before.before.args.out.now))
+    let ready = is_ready c.before.before.before.before.before.before.before.before.before.before.before.before.before.before.before.before.before.before.before.before.before.before.before.before.before.before.before.before.before.before.before.before.before.before.before.before.before.before.before.before.before.before.before.before.args.sheet.now c.before.before.before.before.before.before.before.before.before.before.before.before.before.before.before.before.before.before.before.before.before.before.before.before.before.before.before.before.before.«open».ensures c.before.before.before.before.before.before.before.before.before.before.before.before.before.before.before.before.opened2.given.1 in
+    said-small (c.before.before.before.play-accepted.ensures.said ready) (play_reply_lem ready c.before.before.before.before.before.before.before.before.before.before.before.before.before.before.before.before.before.before.before.before.before.before.before.before.before.before.before.before.before.before.before.before.before.before.before.before.before.before.before.before.before.before.before.before.args.list.now (length c.before.before.before.before.before.before.before.before.before.before.before.before.before.before.before.before.before.before.before.before.before.before.before.before.before.before.before.before.before.before.before.before.before.before.before.before.before.before.before.before.before.before.before.before.args.out.now) c.before.before.before.before.before.before.before.before.before.before.before.before.before.before.if1.false) (play-numbers c.before.before.before.before.before.before.before.before.before.before.before.before.before.before.before.before.before.before.before.before.before.before.before.before.before.before.before.before.before.before.before.before.before.before.before.before.before.before.before.before.before.before.before.before.args.sheet.now c.before.before.before.before.before.before.before.before.before.before.before.before.before.before.before.before.before.before.before.before.before.before.before.before.before.before.before.before.before.before.before.before.before.before.before.before.before.before.before.before.before.before.before.before.args.list.now (length c.before.before.before.before.before.before.before.before.before.before.before.before.before.before.before.before.before.before.before.before.before.before.before.before.before.before.before.before.before.before.before.before.before.before.before.before.before.before.before.before.before.before.before.before.args.out.now))
 
 -- src/lib.rt:273:1
 returns-2 : tie.Need-returns-2
-returns-2 c = answered-refused c.before.before.before.before.before.before.before.before.before.before.before.before.before.before.before.before.before.before.before.before.before.before.before.before.before.before.before.before.before.before.args.out.now c.refused.ensures (play-refused c.before.before.before.before.before.before.before.before.before.before.before.before.before.before.before.before.before.before.before.before.before.before.before.before.before.before.before.before.before.before.args.sheet.now c.before.before.before.before.before.before.before.before.before.before.before.before.before.before.before.«open».ensures c.before.before.before.before.before.before.before.before.before.before.before.before.before.before.before.before.before.before.before.before.before.before.before.before.before.before.before.before.before.before.args.list.now (length c.before.before.before.before.before.before.before.before.before.before.before.before.before.before.before.before.before.before.before.before.before.before.before.before.before.before.before.before.before.before.args.out.now) c.before.before.opened.given.1)
+returns-2 c = answered_refused c.before.before.before.before.before.before.before.before.before.before.before.before.before.before.before.before.before.before.before.before.before.before.before.before.before.before.before.before.before.before.args.out.now c.refused.ensures (play-refused c.before.before.before.before.before.before.before.before.before.before.before.before.before.before.before.before.before.before.before.before.before.before.before.before.before.before.before.before.before.before.args.sheet.now c.before.before.before.before.before.before.before.before.before.before.before.before.before.before.before.«open».ensures c.before.before.before.before.before.before.before.before.before.before.before.before.before.before.before.before.before.before.before.before.before.before.before.before.before.before.before.before.before.before.args.list.now (length c.before.before.before.before.before.before.before.before.before.before.before.before.before.before.before.before.before.before.before.before.before.before.before.before.before.before.before.before.before.before.args.out.now) c.before.before.opened.given.1)
 
 -- src/lib.rt:273:1
 same_length : tie.Need-same-length
@@ -137,8 +137,8 @@ same_length c = search rules
 -- src/lib.rt:273:1
 returns-3 : tie.Need-returns-3
 returns-3 c =
-    let ready = is-ready c.before.before.before.before.before.before.before.before.before.before.before.before.before.before.before.before.before.before.before.before.before.before.before.before.before.before.before.before.before.before.before.before.before.before.before.before.before.before.before.before.before.before.before.before.before.args.sheet.now c.before.before.before.before.before.before.before.before.before.before.before.before.before.before.before.before.before.before.before.before.before.before.before.before.before.before.before.before.before.before.«open».ensures c.before.before.before.before.before.before.before.before.before.before.before.before.before.before.before.before.before.opened2.given.1 in
-    said-answered c.answer-of.ensures (c.before.before.before.before.play-accepted.ensures.said ready) (play-reply ready c.before.before.before.before.before.before.before.before.before.before.before.before.before.before.before.before.before.before.before.before.before.before.before.before.before.before.before.before.before.before.before.before.before.before.before.before.before.before.before.before.before.before.before.before.before.args.list.now (length c.before.before.before.before.before.before.before.before.before.before.before.before.before.before.before.before.before.before.before.before.before.before.before.before.before.before.before.before.before.before.before.before.before.before.before.before.before.before.before.before.before.before.before.before.before.args.out.now) c.before.before.before.before.before.before.before.before.before.before.before.before.before.before.before.if1.false)
+    let ready = is_ready c.before.before.before.before.before.before.before.before.before.before.before.before.before.before.before.before.before.before.before.before.before.before.before.before.before.before.before.before.before.before.before.before.before.before.before.before.before.before.before.before.before.before.before.before.before.args.sheet.now c.before.before.before.before.before.before.before.before.before.before.before.before.before.before.before.before.before.before.before.before.before.before.before.before.before.before.before.before.before.before.«open».ensures c.before.before.before.before.before.before.before.before.before.before.before.before.before.before.before.before.before.opened2.given.1 in
+    said_answered c.answer-of.ensures (c.before.before.before.before.play-accepted.ensures.said ready) (play_reply_lem ready c.before.before.before.before.before.before.before.before.before.before.before.before.before.before.before.before.before.before.before.before.before.before.before.before.before.before.before.before.before.before.before.before.before.before.before.before.before.before.before.before.before.before.before.before.before.args.list.now (length c.before.before.before.before.before.before.before.before.before.before.before.before.before.before.before.before.before.before.before.before.before.before.before.before.before.before.before.before.before.before.before.before.before.before.before.before.before.before.before.before.before.before.before.before.before.args.out.now) c.before.before.before.before.before.before.before.before.before.before.before.before.before.before.before.if1.false)
 
 pub play-spec : {M : Type 1} → statement M
 play-spec =

@@ -1,6 +1,6 @@
 use native.Mathlib.Omega.{arith}
 use Rattle.node.proofs.Held.{links-few}
-use Rattle.calls.proofs.Writing.{loads-in, empty, to-calculate, to_write, next-written}
+use Rattle.calls.proofs.Writing.{loads_in, empty, to_calculate, to_write, next-written}
 use borrow.Author.Rules.{rules}
 use Rattle.calls.proofs.write_next.Statement.{statement}
 use Rattle.calls.proofs.write_next.Tie as tie
@@ -12,7 +12,7 @@ use Rattle.sheet.proofs.write_fractions.Reads as write-fractions-reads
 
 -- src/lib.rt:135:32
 slice-aggregate-write-line-delays : tie.Need-slice-aggregate-write-line-delays
-slice-aggregate-write-line-delays c = loads-in c.before.before.before.before.before.before.before.before.before.before.before.requires.0
+slice-aggregate-write-line-delays c = loads_in c.before.before.before.before.before.before.before.before.before.before.before.requires.0
 
 -- src/lib.rt:135:48
 slice-aggregate-write-line-delays-2 : tie.Need-slice-aggregate-write-line-delays-2
@@ -20,7 +20,7 @@ slice-aggregate-write-line-delays-2 c = search rules
 
 -- src/lib.rt:135:5
 write-line-delays-requires : tie.Need-write-line-delays-requires
-write-line-delays-requires c κs = omega (arith, loads-in c.before.before.before.before.before.before.before.before.before.before.before.before.requires.0, links-few c.before.before.before.before.before.before.before.before.before.before.before.before.requires.0.ready.graph)
+write-line-delays-requires c κs = omega (arith, loads_in c.before.before.before.before.before.before.before.before.before.before.before.before.requires.0, links-few c.before.before.before.before.before.before.before.before.before.before.before.before.requires.0.ready.graph)
 
 -- src/lib.rt:144:9
 slice-aggregate-next-fractions : tie.Need-slice-aggregate-next-fractions
@@ -32,7 +32,7 @@ slice-aggregate-next-fractions-2 c = search rules
 
 -- src/lib.rt:137:5
 next-fractions-requires : tie.Need-next-fractions-requires
-next-fractions-requires c κs = (to-calculate c.before.before.before.before.write-line-delays.ensures c.before.before.before.before.before.before.before.before.before.before.before.before.before.before.before.before.before.requires.0, empty)
+next-fractions-requires c κs = (to_calculate c.before.before.before.before.write-line-delays.ensures c.before.before.before.before.before.before.before.before.before.before.before.before.before.before.before.before.before.requires.0, empty)
 
 -- src/lib.rt:149:5
 write-fractions-requires : tie.Need-write-fractions-requires

@@ -1,4 +1,4 @@
-use Rattle.desk.specs.Work.{waySaid}
+use Rattle.desk.specs.Work.{way_said}
 use Rattle.desk.proofs.Places.{blocks_is}
 use borrow.Author.Rules.{rules}
 use Rattle.desk.proofs.is_blocking.Statement.{statement}
@@ -22,7 +22,7 @@ is-marked-requires c κs = search rules
 returns : tie.Need-returns
 returns c =
     let start = c.before.before.before.before.before.before.before in
-    blocks_is _ _ _ (waySaid start.args.w) start.requires.2 c.before.before.before.before.before.before.delay-told.ensures.0 c.before.before.before.before.before.cost-of.ensures.0 c.before.before.before.before.excess.ensures.0 c.before.before.before.heavy.ensures c.is-marked.ensures
+    blocks_is _ _ _ (way_said start.args.w) start.requires.2 c.before.before.before.before.before.before.delay-told.ensures.0 c.before.before.before.before.before.cost_of.ensures.0 c.before.before.before.before.excess.ensures.0 c.before.before.before.heavy.ensures c.is-marked.ensures
 
 pub is-blocking-spec : {M : Type 1} → statement M
 is-blocking-spec =

@@ -1,5 +1,5 @@
 use Rattle.desk.proofs.Places.{held}
-use Rattle.desk.proofs.Shares.{best-inside, best-fits, empty-row, new-row-is}
+use Rattle.desk.proofs.Shares.{best-inside, best-fits, empty-row, new_row_is}
 use borrow.Author.Rules.{rules}
 use native.Mathlib.Omega.{arith}
 use Rattle.desk.proofs.new_row.Statement.{statement}
@@ -35,7 +35,7 @@ same_length c = search rules
 returns-2 : tie.Need-returns-2
 returns-2 c =
     let a = c.before.before.before.before.before.before.before.before.before.before.before.before.before.args in
-    λ fs e u. new-row-is a.s.0 a.t.0 c.before.before.before.before.before.before.before.before.before.before.before.before.before.requires.0 fs e u c.before.before.before.before.before.before.row-best.ensures c.before.before.before.before.cut-row.ensures c.sum.ensures
+    λ fs e u. new_row_is a.s.0 a.t.0 c.before.before.before.before.before.before.before.before.before.before.before.before.before.requires.0 fs e u c.before.before.before.before.before.before.row-best.ensures c.before.before.before.before.cut-row.ensures c.sum.ensures
 
 pub new-row-spec : {M : Type 1} → statement M
 new-row-spec =

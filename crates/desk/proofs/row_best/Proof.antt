@@ -1,5 +1,5 @@
 use lib.ListN.{length}
-use Rattle.desk.proofs.Choices.{Chosen, chosen_none, chosen_more, chosen-all}
+use Rattle.desk.proofs.Choices.{Chosen, chosen_none, chosen_more, chosen_all}
 use borrow.Author.Rules.{rules}
 use Rattle.desk.proofs.row_best.Statement.{statement}
 use Rattle.desk.proofs.row_best.Tie as tie
@@ -32,7 +32,7 @@ loop-again : tie.Need-loop-preserved invariant-loop decreases-loop
 loop-again c = chosen_more c.before.before.before.loop-test.true c.before.before.before.before.loop.invariant c.before.before.way_at.ensures.0 c.before.barred-cost.ensures c.better.ensures
 
 returns : tie.Need-returns invariant-loop decreases-loop
-returns c = chosen-all c.loop-test.false c.before.loop.invariant
+returns c = chosen_all c.loop-test.false c.before.loop.invariant
 
 pub row-best-spec : {M : Type 1} → statement M
 row-best-spec =

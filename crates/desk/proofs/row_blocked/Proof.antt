@@ -1,7 +1,7 @@
 use Prim.Native.Nat.{◌-◌}
 use Rattle.rules.specs.Lists.{exists}
 use Rattle.rules.specs.Desk.{blocks}
-use Rattle.desk.proofs.Places.{Folded, folded-none, folded-all, any-more, flows-at, flows-said, held}
+use Rattle.desk.proofs.Places.{Folded, folded_none, folded_all, any_more, flows-at, flows-said, held}
 use borrow.Author.Rules.{rules}
 use native.Mathlib.Omega.{arith}
 use Rattle.desk.proofs.row_blocked.Statement.{statement}
@@ -14,7 +14,7 @@ abbrev decreases-loop : tie.decreases-loop
 decreases-loop s t m line fraction inbox flow r₀ j₀ r j = j
 
 loop-holds : tie.Need-loop-init invariant-loop decreases-loop
-loop-holds c = folded-none
+loop-holds c = folded_none
 
 sub-j : tie.Need-overflow-sub-j invariant-loop decreases-loop
 sub-j c = search rules
@@ -39,10 +39,10 @@ loop-less : tie.Need-loop-smaller invariant-loop decreases-loop
 loop-less c = search rules
 
 loop-again : tie.Need-loop-preserved invariant-loop decreases-loop
-loop-again c = any-more c.before.before.before.loop-test.true c.before.before.before.before.loop.invariant c.before.way_at.ensures.0 c.is-blocking.ensures
+loop-again c = any_more c.before.before.before.loop-test.true c.before.before.before.before.loop.invariant c.before.way_at.ensures.0 c.is-blocking.ensures
 
 returns : tie.Need-returns invariant-loop decreases-loop
-returns c = folded-all c.loop-test.false c.before.loop.invariant
+returns c = folded_all c.loop-test.false c.before.loop.invariant
 
 pub row-blocked-spec : {M : Type 1} → statement M
 row-blocked-spec =

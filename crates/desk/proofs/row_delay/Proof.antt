@@ -2,7 +2,7 @@ use Prim.Native.Nat.{ℕ, ◌-◌, ◌/◌}
 use mathlib.Core.Path.{refl, ap, ◌∙◌}
 use Rattle.rules.specs.Lists.{total}
 use Rattle.rules.specs.Desk.{weighed}
-use Rattle.desk.proofs.Places.{Folded, folded-none, folded-all, sum_more, weighed-fits, flows-at, held}
+use Rattle.desk.proofs.Places.{Folded, folded_none, folded_all, sum_more, weighed-fits, flows-at, held}
 use borrow.Author.Rules.{rules}
 use native.Mathlib.Omega.{arith}
 use Rattle.desk.proofs.row_delay.Statement.{statement}
@@ -15,7 +15,7 @@ abbrev decreases-loop : tie.decreases-loop
 decreases-loop line fraction inbox flow sum₀ j₀ sum j = j
 
 loop-holds : tie.Need-loop-init invariant-loop decreases-loop
-loop-holds c = folded-none
+loop-holds c = folded_none
 
 sub-j : tie.Need-overflow-sub-j invariant-loop decreases-loop
 sub-j c = search rules
@@ -48,7 +48,7 @@ floored-requires : tie.Need-floored-requires invariant-loop decreases-loop
 floored-requires c κs = weighed-fits c.before.before.before.before.before.before.requires c.before.loop.invariant
 
 returns : tie.Need-returns invariant-loop decreases-loop
-returns c = (c.floored.ensures.0 ∙ ap (λ (n : ℕ). n / 65536) (folded-all c.before.loop-test.false c.before.before.loop.invariant), c.floored.ensures.1)
+returns c = (c.floored.ensures.0 ∙ ap (λ (n : ℕ). n / 65536) (folded_all c.before.loop-test.false c.before.before.loop.invariant), c.floored.ensures.1)
 
 pub row-delay-spec : {M : Type 1} → statement M
 row-delay-spec =

@@ -1,4 +1,4 @@
-use Rattle.desk.proofs.Places.{told-marked, told-clear}
+use Rattle.desk.proofs.Places.{told-marked, told_clear}
 use borrow.Author.Rules.{rules}
 use Rattle.desk.proofs.told_by.Statement.{statement}
 use Rattle.desk.proofs.told_by.Tie as tie
@@ -19,7 +19,7 @@ returns : tie.Need-returns
 returns c = (told-marked _ c.before.if1.true, search rules, search rules)
 
 returns-2 : tie.Need-returns-2
-returns-2 c = (told-clear _ c.before.if1.false, search rules, search rules)
+returns-2 c = (told_clear _ c.before.if1.false, search rules, search rules)
 
 pub told-by-spec : {M : Type 1} → statement M
 told-by-spec = tie.close (tie.spec mul-t4 add-t5 mul-t6 add-t7 returns returns-2)

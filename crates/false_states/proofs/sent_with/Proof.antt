@@ -1,12 +1,12 @@
 use borrow.Author.Rules.{rules}
 use mathlib.Core.Path.{refl}
-use Rattle.play.proofs.Playing.{nothing, loads-in, lines-room}
-use Rattle.false_states.proofs.False.{sent-asked, sent-with}
+use Rattle.play.proofs.Playing.{nothing, loads_in, lines-room}
+use Rattle.false_states.proofs.False.{sent-asked, sent_with}
 use Rattle.false_states.proofs.sent_with.Statement.{statement}
 use Rattle.false_states.proofs.sent_with.Tie as tie
 
 slice-aggregate-write-line-delays : tie.Need-slice-aggregate-write-line-delays
-slice-aggregate-write-line-delays c = loads-in c.before.before.before.before.before.before.before.before.before.before.requires.0
+slice-aggregate-write-line-delays c = loads_in c.before.before.before.before.before.before.before.before.before.before.requires.0
 
 slice-aggregate-write-line-delays-2 : tie.Need-slice-aggregate-write-line-delays-2
 slice-aggregate-write-line-delays-2 c = search rules
@@ -30,7 +30,7 @@ sent-after-requires : tie.Need-sent-after-requires
 sent-after-requires c κs = (sent-asked c.before.before.before.before.before.write-line-delays.ensures c.before.before.before.before.before.before.before.before.before.before.before.before.before.before.before.before.before.requires.0 c.before.before.before.before.before.before.before.before.before.before.before.before.before.before.before.before.before.requires.1 c.before.before.before.before.before.before.before.before.before.before.before.before.before.before.before.before.before.requires.2 c.before.before.before.before.before.before.before.before.before.before.before.before.before.before.before.before.before.requires.3 c.before.before.before.told-by.ensures.1 c.before.before.before.told-by.ensures.2 refl, c.before.before.before.before.before.before.before.before.before.before.before.before.before.before.before.before.before.requires.4, c.before.before.before.before.before.before.before.before.before.before.before.before.before.before.before.before.before.requires.0.1.ready.load-size)
 
 returns : tie.Need-returns
-returns c = sent-with c.before.before.before.before.before.before.before.before.write-line-delays.ensures c.before.before.before.before.before.before.told-by.ensures.0 c.before.before.sent-after.ensures
+returns c = sent_with c.before.before.before.before.before.before.before.before.write-line-delays.ensures c.before.before.before.before.before.before.told-by.ensures.0 c.before.before.sent-after.ensures
 
 pub sent-with-spec : {M : Type 1} → statement M
 sent-with-spec =

@@ -1,5 +1,5 @@
 use borrow.Author.Rules.{rules}
-use Rattle.false_states.proofs.False.{storable-left, stopped-rows, takable, taken-rows}
+use Rattle.false_states.proofs.False.{storable_left, stopped-rows, takable, taken_rows}
 use Rattle.false_states.proofs.take_after.Statement.{statement}
 use Rattle.false_states.proofs.take_after.Tie as tie
 
@@ -25,7 +25,7 @@ enum-told-2 : tie.Need-enum-told-2
 enum-told-2 c = search rules
 
 store-requires : tie.Need-store-requires
-store-requires c κs = storable-left c.before.before.before.before.before.before.before.before.before.before.before.before.before.before.before.before.before.before.before.before.before.before.before.before.before.before.requires.0 c.before.before.before.before.before.before.before.before.before.run-list.ensures c.before.before.before.enum-told2.given.1
+store-requires c κs = storable_left c.before.before.before.before.before.before.before.before.before.before.before.before.before.before.before.before.before.before.before.before.before.before.before.before.before.before.requires.0 c.before.before.before.before.before.before.before.before.before.run-list.ensures c.before.before.before.enum-told2.given.1
 
 take-rows-requires : tie.Need-take-rows-requires
 take-rows-requires c κs = takable c.before.before.before.before.before.before.before.before.before.before.before.before.before.before.before.before.before.before.before.before.before.before.before.before.before.before.before.before.before.before.before.before.before.requires.0 c.before.before.before.before.before.before.before.before.before.before.before.before.before.before.before.before.run-list.ensures c.before.before.before.before.before.before.before.before.before.before.enum-told2.given.1 c.before.before.before.before.before.before.store.ensures
@@ -40,7 +40,7 @@ same-length-6 : tie.Need-same-length-6
 same-length-6 c = search rules
 
 returns-2 : tie.Need-returns-2
-returns-2 c = taken-rows c.before.before.before.before.before.before.before.before.before.before.before.before.before.before.before.before.before.before.before.before.before.before.before.before.before.before.before.before.before.before.before.before.before.before.before.before.requires.0 c.before.before.before.before.before.before.before.before.before.before.before.before.before.before.before.before.before.before.before.run-list.ensures c.before.before.before.before.before.before.before.before.before.before.before.before.before.enum-told2.given.1 c.before.before.before.before.before.before.before.before.before.store.ensures c.before.before.take-rows.ensures
+returns-2 c = taken_rows c.before.before.before.before.before.before.before.before.before.before.before.before.before.before.before.before.before.before.before.before.before.before.before.before.before.before.before.before.before.before.before.before.before.before.before.before.requires.0 c.before.before.before.before.before.before.before.before.before.before.before.before.before.before.before.before.before.before.before.run-list.ensures c.before.before.before.before.before.before.before.before.before.before.before.before.before.enum-told2.given.1 c.before.before.before.before.before.before.before.before.before.store.ensures c.before.before.take-rows.ensures
 
 pub take-after-spec : {M : Type 1} → statement M
 take-after-spec =

@@ -2,15 +2,15 @@ use borrow.Author.Rules.{rules}
 use mathlib.Core.Path.{refl}
 use native.Mathlib.Omega.{arith}
 use Rattle.node.proofs.Held.{links-few}
-use Rattle.play.proofs.Playing.{nothing, loads-in, lines-room}
-use Rattle.false_states.proofs.False.{graph-held, rows-asked, taken-with}
+use Rattle.play.proofs.Playing.{nothing, loads_in, lines-room}
+use Rattle.false_states.proofs.False.{graph-held, rows-asked, taken_with}
 use mathlib.Core.Path.{sym}
 use lib.Seq.{length-take-le}
 use Rattle.false_states.proofs.taken_with.Statement.{statement}
 use Rattle.false_states.proofs.taken_with.Tie as tie
 
 slice-aggregate-write-line-delays : tie.Need-slice-aggregate-write-line-delays
-slice-aggregate-write-line-delays c = loads-in c.before.before.before.before.before.before.before.before.before.before.requires.0
+slice-aggregate-write-line-delays c = loads_in c.before.before.before.before.before.before.before.before.before.before.requires.0
 
 slice-aggregate-write-line-delays-2 : tie.Need-slice-aggregate-write-line-delays-2
 slice-aggregate-write-line-delays-2 c = search rules
@@ -55,7 +55,7 @@ same_length : tie.Need-same-length
 same_length c = search rules
 
 returns : tie.Need-returns
-returns c = taken-with c.before.before.before.before.before.before.before.before.before.before.before.before.before.before.before.before.before.before.before.before.write-line-delays.ensures c.before.before.before.before.before.before.before.before.before.told-by.ensures.0 c.before.before.before.before.before.before.before.before.before.before.before.before.before.before.write-house.ensures c.before.before.before.before.take_after.ensures
+returns c = taken_with c.before.before.before.before.before.before.before.before.before.before.before.before.before.before.before.before.before.before.before.before.write-line-delays.ensures c.before.before.before.before.before.before.before.before.before.told-by.ensures.0 c.before.before.before.before.before.before.before.before.before.before.before.before.before.before.write-house.ensures c.before.before.before.before.take_after.ensures
 
 pub taken-with-spec : {M : Type 1} → statement M
 taken-with-spec =

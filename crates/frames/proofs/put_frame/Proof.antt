@@ -1,6 +1,6 @@
 use native.Mathlib.Omega.{arith}
 use lib.ListN.{length-set}
-use Rattle.frames.proofs.Framing.{frame-put, frame_same}
+use Rattle.frames.proofs.Framing.{frame_put, frame_same}
 use borrow.Author.Rules.{rules}
 use Rattle.frames.proofs.put_frame.Statement.{statement}
 use Rattle.frames.proofs.put_frame.Tie as tie
@@ -24,7 +24,7 @@ same_length : tie.Need-same-length
 same_length c = frame_same c.before.before.before.before.before.args.x c.before.before.before.before.before.args.out.now c.before.before.before.before.before.args.o c.before.before.before.before.before.requires c.before.before.put_word.ensures
 
 returns : tie.Need-returns
-returns c = frame-put c.before.before.before.before.before.args.x c.before.before.before.before.before.args.out.now c.before.before.before.before.before.args.o c.before.before.before.before.before.requires c.before.before.put_word.ensures
+returns c = frame_put c.before.before.before.before.before.args.x c.before.before.before.before.before.args.out.now c.before.before.before.before.before.args.o c.before.before.before.before.before.requires c.before.before.put_word.ensures
 
 pub put-frame-spec : {M : Type 1} → statement M
 put-frame-spec =

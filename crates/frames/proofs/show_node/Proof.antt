@@ -1,4 +1,4 @@
-use Rattle.frames.proofs.Framing.{shows_nothing, shows-message}
+use Rattle.frames.proofs.Framing.{shows_nothing, shows_message}
 use mathlib.Core.Path.{refl}
 use borrow.Author.Rules.{rules}
 use Rattle.frames.proofs.show_node.Statement.{statement}
@@ -17,7 +17,7 @@ shown-of-requires : tie.Need-shown-of-requires
 shown-of-requires c κs = search rules
 
 returns-2 : tie.Need-returns-2
-returns-2 c = shows-message c.before.before.before.status-of.ensures c.before.before.if1.false c.before.message-of.ensures c.Shown-of.ensures
+returns-2 c = shows_message c.before.before.before.status-of.ensures c.before.before.if1.false c.before.message-of.ensures c.Shown-of.ensures
 
 pub show-node-spec : {M : Type 1} → statement M
 show-node-spec =

@@ -1,7 +1,7 @@
 use Prim.Native.Nat.{◌-◌}
 use native.Mathlib.Omega.{arith}
 use borrow.Author.Rules.{rules}
-use Rattle.frames.proofs.Framing.{Framing, framing-none, framing-more, framing-all}
+use Rattle.frames.proofs.Framing.{Framing, framing_none, framing_more, framing_all}
 use Rattle.frames.proofs.write_frames.Statement.{statement}
 use Rattle.frames.proofs.write_frames.Tie as tie
 
@@ -12,7 +12,7 @@ abbrev decreases-loop : tie.decreases-loop
 decreases-loop h traffic starts flow-starts flow line fraction inbox quiet out₀ nodes i₀ out i = nodes - i
 
 loop-holds : tie.Need-loop-init invariant-loop decreases-loop
-loop-holds c = framing-none
+loop-holds c = framing_none
 
 cast-k : tie.Need-overflow-cast-k invariant-loop decreases-loop
 cast-k c = search rules
@@ -45,13 +45,13 @@ loop-less : tie.Need-loop-smaller invariant-loop decreases-loop
 loop-less c = search rules
 
 loop-again : tie.Need-loop-preserved invariant-loop decreases-loop
-loop-again c = framing-more c.before.before.before.before.before.before.before.before.loop.invariant c.before.before.before.before.before.before.before.loop-test.true c.before.before.before.before.before.before.before.before.before.before.before.before.before.before.before.before.before.before.requires.room c.before.before.before.before.show-node.ensures c.before.before.put-frame.ensures
+loop-again c = framing_more c.before.before.before.before.before.before.before.before.loop.invariant c.before.before.before.before.before.before.before.loop-test.true c.before.before.before.before.before.before.before.before.before.before.before.before.before.before.before.before.before.before.requires.room c.before.before.before.before.show-node.ensures c.before.before.put-frame.ensures
 
 same_length : tie.Need-same-length invariant-loop decreases-loop
 same_length c = search rules
 
 returns : tie.Need-returns invariant-loop decreases-loop
-returns c = framing-all c.before.loop.invariant c.loop-test.false
+returns c = framing_all c.before.loop.invariant c.loop-test.false
 
 pub write-frames-spec : {M : Type 1} → statement M
 write-frames-spec =

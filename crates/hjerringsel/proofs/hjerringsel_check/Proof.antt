@@ -1,6 +1,6 @@
 use mathlib.Core.Path.{ap, ◌∙◌}
-use Rattle.rules.specs.Calls.{checkReply}
-use Rattle.rules.proofs.Demands.{check-values}
+use Rattle.rules.specs.Calls.{check_reply}
+use Rattle.rules.proofs.Demands.{check_values}
 use Rattle.answers.specs.Answers.{packed}
 use Rattle.hjerringsel.proofs.Exported.{value-fits}
 use borrow.Author.Rules.{rules}
@@ -18,7 +18,7 @@ check-requires c κs = search rules
 -- src/lib.rt:312:5
 packed-of-requires : tie.Need-packed-of-requires
 packed-of-requires c κs =
-    value-fits c.check.result (checkReply c.before.before.args.sheet.now) c.check.ensures (check-values c.before.before.args.sheet.now)
+    value-fits c.check.result (check_reply c.before.before.args.sheet.now) c.check.ensures (check_values c.before.before.args.sheet.now)
 
 -- src/lib.rt:308:1
 returns : tie.Need-returns

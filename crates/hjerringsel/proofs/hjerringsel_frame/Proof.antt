@@ -1,6 +1,6 @@
 use lib.ListN.{length}
-use Rattle.rules.proofs.Demands.{frame-values}
-use Rattle.hjerringsel.proofs.Exported.{answered-fits, exported}
+use Rattle.rules.proofs.Demands.{frame_values}
+use Rattle.hjerringsel.proofs.Exported.{answered_fits, exported}
 use borrow.Author.Rules.{rules}
 use Rattle.hjerringsel.proofs.hjerringsel_frame.Statement.{statement}
 use Rattle.hjerringsel.proofs.hjerringsel_frame.Tie as tie
@@ -16,8 +16,8 @@ frame-requires c κs = search rules
 -- src/lib.rt:461:5
 packed-of-requires : tie.Need-packed-of-requires
 packed-of-requires c κs =
-    answered-fits c.before.before.frame.ensures
-    (frame-values c.before.before.before.before.before.before.before.args.sheet.now c.before.before.before.before.before.before.before.args.list.now (length c.before.before.before.before.before.before.before.args.out.now))
+    answered_fits c.before.before.frame.ensures
+    (frame_values c.before.before.before.before.before.before.before.args.sheet.now c.before.before.before.before.before.before.before.args.list.now (length c.before.before.before.before.before.before.before.args.out.now))
 
 -- src/lib.rt:457:1
 same_length : tie.Need-same-length

@@ -1,6 +1,6 @@
 use lib.ListN.{length}
-use Rattle.rules.proofs.Demands.{house-values}
-use Rattle.hjerringsel.proofs.Exported.{answered-fits, exported}
+use Rattle.rules.proofs.Demands.{house_values}
+use Rattle.hjerringsel.proofs.Exported.{answered_fits, exported}
 use borrow.Author.Rules.{rules}
 use Rattle.hjerringsel.proofs.hjerringsel_house.Statement.{statement}
 use Rattle.hjerringsel.proofs.hjerringsel_house.Tie as tie
@@ -16,8 +16,8 @@ house-requires c κs = search rules
 -- src/lib.rt:326:5
 packed-of-requires : tie.Need-packed-of-requires
 packed-of-requires c κs =
-    answered-fits c.before.before.house.ensures
-    (house-values c.before.before.before.before.before.before.args.sheet.now (length c.before.before.before.before.before.before.args.out.now))
+    answered_fits c.before.before.house.ensures
+    (house_values c.before.before.before.before.before.before.args.sheet.now (length c.before.before.before.before.before.before.args.out.now))
 
 -- src/lib.rt:322:1
 same_length : tie.Need-same-length

@@ -1,6 +1,6 @@
 use lib.ListN.{length}
-use Rattle.rules.proofs.Demands.{next-values}
-use Rattle.hjerringsel.proofs.Exported.{answered-fits, exported}
+use Rattle.rules.proofs.Demands.{next_values}
+use Rattle.hjerringsel.proofs.Exported.{answered_fits, exported}
 use borrow.Author.Rules.{rules}
 use Rattle.hjerringsel.proofs.hjerringsel_next.Statement.{statement}
 use Rattle.hjerringsel.proofs.hjerringsel_next.Tie as tie
@@ -16,8 +16,8 @@ next-requires c κs = search rules
 -- src/lib.rt:319:5
 packed-of-requires : tie.Need-packed-of-requires
 packed-of-requires c κs =
-    answered-fits c.before.before.next.ensures
-    (next-values c.before.before.before.before.before.before.args.sheet.now (length c.before.before.before.before.before.before.args.out.now))
+    answered_fits c.before.before.next.ensures
+    (next_values c.before.before.before.before.before.before.args.sheet.now (length c.before.before.before.before.before.before.args.out.now))
 
 -- src/lib.rt:315:1
 same_length : tie.Need-same-length

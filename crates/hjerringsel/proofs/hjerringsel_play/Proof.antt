@@ -1,6 +1,6 @@
 use lib.ListN.{length}
-use Rattle.rules.proofs.Demands.{play-values}
-use Rattle.hjerringsel.proofs.Exported.{answered-fits, exported}
+use Rattle.rules.proofs.Demands.{play_values}
+use Rattle.hjerringsel.proofs.Exported.{answered_fits, exported}
 use borrow.Author.Rules.{rules}
 use Rattle.hjerringsel.proofs.hjerringsel_play.Statement.{statement}
 use Rattle.hjerringsel.proofs.hjerringsel_play.Tie as tie
@@ -16,8 +16,8 @@ play-requires c κs = search rules
 -- src/lib.rt:454:5
 packed-of-requires : tie.Need-packed-of-requires
 packed-of-requires c κs =
-    answered-fits c.before.before.play.ensures
-    (play-values c.before.before.before.before.before.before.before.args.sheet.now c.before.before.before.before.before.before.before.args.list.now (length c.before.before.before.before.before.before.before.args.out.now))
+    answered_fits c.before.before.play.ensures
+    (play_values c.before.before.before.before.before.before.before.args.sheet.now c.before.before.before.before.before.before.before.args.list.now (length c.before.before.before.before.before.before.before.args.out.now))
 
 -- src/lib.rt:450:1
 same_length : tie.Need-same-length

@@ -6,7 +6,7 @@ use borrow.Author.Rules.{rules}
 use Rattle.rules.specs.Lists.{total, below}
 use Rattle.house.specs.Nodes.{digit}
 use Rattle.house.proofs.Digits.{fewer-nodes}
-use Rattle.house.proofs.Searching.{Walking, row-links, rows-live, rows_more, rows-here, rows_all}
+use Rattle.house.proofs.Searching.{Walking, row-links, rows_live, rows_more, rows-here, rows_all}
 use Rattle.house.proofs.find_lowest.Statement.{statement}
 use Rattle.house.proofs.find_lowest.Tie as tie
 
@@ -71,13 +71,13 @@ returns : tie.Need-returns invariant-loop decreases-loop
 returns c = rows-here c.before.before.before.before.before.before.before.before.before.before.before.before.before.before.before.before.before.requires c.before.before.before.before.before.before.before.loop.invariant c.before.before.before.before.before.before.loop-test.true c.before.before.higher.ensures c.before.next-in-row.ensures c.if1.true
 
 without-requires : tie.Need-without-requires invariant-loop decreases-loop
-without-requires c κs = rows-live c.before.before.before.before.before.before.before.before.before.before.before.before.before.before.before.before.before.requires c.before.before.before.before.before.before.before.loop.invariant c.before.before.before.before.before.before.loop-test.true
+without-requires c κs = rows_live c.before.before.before.before.before.before.before.before.before.before.before.before.before.before.before.before.before.requires c.before.before.before.before.before.before.before.loop.invariant c.before.before.before.before.before.before.loop-test.true
 
 first-live-requires-2 : tie.Need-first-live-requires-2 invariant-loop decreases-loop
 first-live-requires-2 c κs = search rules
 
 loop-less : tie.Need-loop-smaller invariant-loop decreases-loop
-loop-less c = let low = rows-live c.before.before.before.before.before.before.before.before.before.before.before.before.before.before.before.before.before.before.before.requires c.before.before.before.before.before.before.before.before.before.loop.invariant c.before.before.before.before.before.before.before.before.loop-test.true in fewer-nodes c.before.without.ensures low.1 64 low.0
+loop-less c = let low = rows_live c.before.before.before.before.before.before.before.before.before.before.before.before.before.before.before.before.before.before.before.requires c.before.before.before.before.before.before.before.before.before.loop.invariant c.before.before.before.before.before.before.before.before.loop-test.true in fewer-nodes c.before.without.ensures low.1 64 low.0
 
 loop-again : tie.Need-loop-preserved invariant-loop decreases-loop
 loop-again c = rows_more c.before.before.before.before.before.before.before.before.before.before.before.before.before.before.before.before.before.before.before.requires c.before.before.before.before.before.before.before.before.before.loop.invariant c.before.before.before.before.before.before.before.before.loop-test.true c.before.before.before.before.higher.ensures c.before.before.before.next-in-row.ensures c.before.before.if1.false c.before.without.ensures c.first-live2.ensures

@@ -1,5 +1,5 @@
 use borrow.Author.Rules.{rules}
-use Rattle.house.proofs.Storing.{chosen-same, chosen-anew}
+use Rattle.house.proofs.Storing.{chosen-same, chosen_anew}
 use Rattle.house.proofs.store_chosen.Statement.{statement}
 use Rattle.house.proofs.store_chosen.Tie as tie
 
@@ -67,7 +67,7 @@ same-length-5 : tie.Need-same-length-5
 same-length-5 c = search rules
 
 returns-2 : tie.Need-returns-2
-returns-2 c = chosen-anew c.before.before.before.before.before.before.before.before.store.ensures c.before.before.before.before.before.before.before.before.before.before.before.before.before.before.before.before.before.before.before.before.before.requires.2 c.before.before.before.before.before.before.before.before.before.before.before.before.before.before.before.before.before.before.before.before.before.requires.0.far c.with.ensures
+returns-2 c = chosen_anew c.before.before.before.before.before.before.before.before.store.ensures c.before.before.before.before.before.before.before.before.before.before.before.before.before.before.before.before.before.before.before.before.before.requires.2 c.before.before.before.before.before.before.before.before.before.before.before.before.before.before.before.before.before.before.before.before.before.requires.0.far c.with.ensures
 
 pub store-chosen-spec : {M : Type 1} → statement M
 store-chosen-spec =

@@ -3,7 +3,7 @@ use native.Mathlib.Omega.{arith}
 use mathlib.Core.Path.{refl}
 use borrow.Author.Rules.{rules}
 use Rattle.links.specs.List.{Listed}
-use Rattle.links.proofs.Listing.{listed-none, listed_more, listed-all}
+use Rattle.links.proofs.Listing.{listed_none, listed_more, listed_all}
 use Rattle.links.proofs.list.Statement.{statement}
 use Rattle.links.proofs.list.Tie as tie
 
@@ -17,7 +17,7 @@ no-link-requires : tie.Need-no-link-requires invariant-loop decreases-loop
 no-link-requires c κs = search rules
 
 loop-holds : tie.Need-loop-init invariant-loop decreases-loop
-loop-holds c = listed-none refl
+loop-holds c = listed_none refl
 
 shared-slice-read-record-of : tie.Need-shared-slice-read-record-of invariant-loop decreases-loop
 shared-slice-read-record-of c = search rules
@@ -53,7 +53,7 @@ loop-again : tie.Need-loop-preserved invariant-loop decreases-loop
 loop-again c = listed_more c.before.before.before.before.before.before.loop.invariant (omega arith) c.record_of.ensures
 
 returns : tie.Need-returns invariant-loop decreases-loop
-returns c = listed-all c.before.loop.invariant c.loop-test.false
+returns c = listed_all c.before.loop.invariant c.loop-test.false
 
 pub list-spec : {M : Type 1} → statement M
 list-spec =

@@ -5,7 +5,7 @@ use mathlib.Core.Path.{◌≡◌, refl, sym, ◌∙◌}
 use lib.ListN.{length, get_or, length-set}
 use borrow.Author.Tests.{not-false}
 use Rattle.rules.proofs.Tests.{clash}
-use Rattle.links.proofs.Pairing.{Met, met-none, met-more, met_all}
+use Rattle.links.proofs.Pairing.{Met, met_none, met_more, met_all}
 use Rattle.links.proofs.meet_opposites.Statement.{statement}
 use Rattle.links.proofs.meet_opposites.Tie as tie
 
@@ -16,7 +16,7 @@ abbrev decreases-loop : tie.decreases-loop
 decreases-loop count from to cursor₀ opposite₀ j₀ cursor opposite j = count - j
 
 loop-holds : tie.Need-loop-init invariant-loop decreases-loop
-loop-holds c = (met-none c.before.before.before.before.requires.4, c.before.before.before.before.requires.3)
+loop-holds c = (met_none c.before.before.before.before.requires.4, c.before.before.before.before.requires.3)
 
 shared-slice-read-b : tie.Need-shared-slice-read-b invariant-loop decreases-loop
 shared-slice-read-b c = search rules
@@ -96,7 +96,7 @@ loop-less c = search rules
 loop-again : tie.Need-loop-preserved invariant-loop decreases-loop
 loop-again c =
     let l = c.before.before.before.before.before.before.before.before.before.before.loop.invariant in
-    (met-more l.0 c.before.before.before.before.before.before.before.before.before.before.before.before.before.before.before.requires.0 c.before.before.before.before.before.before.before.before.before.loop-test.true c.before.before.before.before.before.before.if1.false (sym c.before.is-between.ensures ∙ not-false _ c.if2.false), simp length-set l.1)
+    (met_more l.0 c.before.before.before.before.before.before.before.before.before.before.before.before.before.before.before.requires.0 c.before.before.before.before.before.before.before.before.before.loop-test.true c.before.before.before.before.before.before.if1.false (sym c.before.is-between.ensures ∙ not-false _ c.if2.false), simp length-set l.1)
 
 same-length-5 : tie.Need-same-length-5 invariant-loop decreases-loop
 same-length-5 c = search rules

@@ -7,13 +7,13 @@ use borrow.Author.Rules.{rules}
 use borrow.Author.Tests.{not-true, not-false}
 use lib.ListN.{length, drop}
 use mathlib.Core.Path.{◌≡◌, sym, ◌∙◌}
-use Rattle.links.specs.List.{rowStart}
-use Rattle.links.proofs.Listing.{start-here, start-past, start-end}
+use Rattle.links.specs.List.{row_start}
+use Rattle.links.proofs.Listing.{start-here, start_past, start_end}
 use Rattle.links.proofs.row_start.Statement.{statement}
 use Rattle.links.proofs.row_start.Proof.Tie as tie
 
 abbrev invariant-loop : tie.invariant-loop
-invariant-loop links i k₀ k = (k ≤ length links) × (rowStart i links ≡ k + rowStart i (drop k links))
+invariant-loop links i k₀ k = (k ≤ length links) × (row_start i links ≡ k + row_start i (drop k links))
 
 abbrev decreases-loop : tie.decreases-loop
 decreases-loop links i k₀ k = length links - k
@@ -40,10 +40,10 @@ loop-less : tie.Need-loop-smaller invariant-loop decreases-loop
 loop-less c = search rules
 
 loop-again : tie.Need-loop-preserved invariant-loop decreases-loop
-loop-again c = (omega arith, omega (arith, c.before.before.before.before.loop.invariant.1, start-past c.before.before.before.before.before.args.links.now c.before.before.before.before.loop.k c.before.before.before.before.before.args.i c.before.before.before.loop-test.true (sym c.before.is_below.ensures ∙ not-false _ c.if1.false)))
+loop-again c = (omega arith, omega (arith, c.before.before.before.before.loop.invariant.1, start_past c.before.before.before.before.before.args.links.now c.before.before.before.before.loop.k c.before.before.before.before.before.args.i c.before.before.before.loop-test.true (sym c.before.is_below.ensures ∙ not-false _ c.if1.false)))
 
 returns-2 : tie.Need-returns-2 invariant-loop decreases-loop
-returns-2 c = omega (arith, c.before.loop.invariant.1, start-end c.before.before.args.links.now c.before.loop.k c.before.before.args.i c.loop-test.false)
+returns-2 c = omega (arith, c.before.loop.invariant.1, start_end c.before.before.args.links.now c.before.loop.k c.before.before.args.i c.loop-test.false)
 
 pub row-start-spec : {M : Type 1} → statement M
 row-start-spec =

@@ -5,8 +5,8 @@ use borrow.Author.Rules.{rules}
 use native.Mathlib.Omega.{arith}
 use Prim.Native.Nat.{◌-◌}
 use mathlib.Core.Path.{◌∙◌}
-use Rattle.links.proofs.Listing.{front_length, front-rising, front-first}
-use Rattle.links.proofs.Pairing.{Pairing, pairing-none, pairing-alone, pairing-low, pairing-more, pairing-all}
+use Rattle.links.proofs.Listing.{front_length, front_rising, front_first}
+use Rattle.links.proofs.Pairing.{Pairing, pairing_none, pairing_alone, pairing_low, pairing_more, pairing_all}
 use Rattle.links.proofs.search_opposites.Statement.{statement}
 use Rattle.links.proofs.search_opposites.Proof.Tie as tie
 
@@ -20,7 +20,7 @@ list-requires : tie.Need-list-requires invariant-loop decreases-loop
 list-requires c κs = search rules
 
 loop-holds : tie.Need-loop-init invariant-loop decreases-loop
-loop-holds c = pairing-none c.before.before.before.before.before.before.requires.5
+loop-holds c = pairing_none c.before.before.before.before.before.before.requires.5
 
 array-share-prefix-links : tie.Need-array-share-prefix-links invariant-loop decreases-loop
 array-share-prefix-links c = omega (arith, c.before.before.list.ensures.size, c.before.before.before.before.before.before.before.before.requires.0)
@@ -29,7 +29,7 @@ slice-aggregate-opposite-of : tie.Need-slice-aggregate-opposite-of invariant-loo
 slice-aggregate-opposite-of c = omega (arith, front_length c.before.before.before.list.ensures c.before.before.before.before.before.before.before.before.before.requires.0)
 
 opposite-of-requires : tie.Need-opposite-of-requires invariant-loop decreases-loop
-opposite-of-requires c κs = (omega (arith, front_length c.before.before.before.list.ensures c.before.before.before.before.before.before.before.before.before.requires.0, c.before.loop-test.true), front-rising c.before.before.before.list.ensures c.before.before.before.before.before.before.before.before.before.requires.0 c.before.before.before.before.before.before.before.before.before.requires.6)
+opposite-of-requires c κs = (omega (arith, front_length c.before.before.before.list.ensures c.before.before.before.before.before.before.before.before.before.requires.0, c.before.loop-test.true), front_rising c.before.before.before.list.ensures c.before.before.before.before.before.before.before.before.before.requires.0 c.before.before.before.before.before.before.before.before.before.requires.6)
 
 enum_told : tie.Need-enum-told invariant-loop decreases-loop
 enum_told c = search rules
@@ -38,13 +38,13 @@ same_length : tie.Need-same-length invariant-loop decreases-loop
 same_length c = search rules
 
 returns : tie.Need-returns invariant-loop decreases-loop
-returns c = pairing-alone c.before.before.before.before.before.loop.invariant (c.before.before.opposite-of.ensures ∙ front-first c.before.before.before.before.before.before.list.ensures c.before.before.before.before.before.before.before.before.before.before.before.before.requires.0 c.before.before.before.before.loop-test.true) c.before.before.before.before.loop-test.true c.enum_told.given.1
+returns c = pairing_alone c.before.before.before.before.before.loop.invariant (c.before.before.opposite-of.ensures ∙ front_first c.before.before.before.before.before.before.list.ensures c.before.before.before.before.before.before.before.before.before.before.before.before.requires.0 c.before.before.before.before.loop-test.true) c.before.before.before.before.loop-test.true c.enum_told.given.1
 
 enum-known-twin : tie.Need-enum-known-twin invariant-loop decreases-loop
 enum-known-twin c = search rules
 
 cast-opposite : tie.Need-overflow-cast-opposite invariant-loop decreases-loop
-cast-opposite c = omega (arith, pairing-low c.before.before.before.before.before.before.loop.invariant (c.before.before.before.opposite-of.ensures ∙ front-first c.before.before.before.before.before.before.before.list.ensures c.before.before.before.before.before.before.before.before.before.before.before.before.before.requires.0 c.before.before.before.before.before.loop-test.true) c.before.before.before.before.before.loop-test.true c.before.twin.given.1, c.before.before.before.before.before.before.before.before.before.before.before.before.before.requires.0)
+cast-opposite c = omega (arith, pairing_low c.before.before.before.before.before.before.loop.invariant (c.before.before.before.opposite-of.ensures ∙ front_first c.before.before.before.before.before.before.before.list.ensures c.before.before.before.before.before.before.before.before.before.before.before.before.before.requires.0 c.before.before.before.before.before.loop-test.true) c.before.before.before.before.before.loop-test.true c.before.twin.given.1, c.before.before.before.before.before.before.before.before.before.before.before.before.before.requires.0)
 
 mul-opposite : tie.Need-overflow-mul-opposite invariant-loop decreases-loop
 mul-opposite c = search rules
@@ -59,13 +59,13 @@ loop-less : tie.Need-loop-smaller invariant-loop decreases-loop
 loop-less c = search rules
 
 loop-again : tie.Need-loop-preserved invariant-loop decreases-loop
-loop-again c = pairing-more c.before.before.before.before.before.before.loop.invariant (c.before.before.before.opposite-of.ensures ∙ front-first c.before.before.before.before.before.before.before.list.ensures c.before.before.before.before.before.before.before.before.before.before.before.before.before.requires.0 c.before.before.before.before.before.loop-test.true) c.before.before.before.before.before.loop-test.true c.before.twin.given.1 c.before.before.before.before.before.before.before.before.before.before.before.before.before.requires.0
+loop-again c = pairing_more c.before.before.before.before.before.before.loop.invariant (c.before.before.before.opposite-of.ensures ∙ front_first c.before.before.before.before.before.before.before.list.ensures c.before.before.before.before.before.before.before.before.before.before.before.before.before.requires.0 c.before.before.before.before.before.loop-test.true) c.before.before.before.before.before.loop-test.true c.before.twin.given.1 c.before.before.before.before.before.before.before.before.before.before.before.before.before.requires.0
 
 same-length-2 : tie.Need-same-length-2 invariant-loop decreases-loop
 same-length-2 c = search rules
 
 returns-2 : tie.Need-returns-2 invariant-loop decreases-loop
-returns-2 c = pairing-all c.before.loop.invariant c.loop-test.false
+returns-2 c = pairing_all c.before.loop.invariant c.loop-test.false
 
 pub search-opposites-spec : {M : Type 1} → statement M
 search-opposites-spec =

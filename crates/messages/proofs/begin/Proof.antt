@@ -1,6 +1,6 @@
 use Prim.Native.Nat.{◌-◌}
 use borrow.Author.Rules.{rules}
-use Rattle.messages.proofs.Beginning.{Beginning, beginning-none, beginning-more, beginning-all}
+use Rattle.messages.proofs.Beginning.{Beginning, beginning_none, beginning_more, beginning_all}
 use Rattle.messages.proofs.begin.Statement.{statement}
 use Rattle.messages.proofs.begin.Tie as tie
 
@@ -11,7 +11,7 @@ abbrev decreases-loop : tie.decreases-loop
 decreases-loop n starts flow-starts quiet₀ count finished₀ i₀ quiet finished i = count - i
 
 loop-holds : tie.Need-loop-init invariant-loop decreases-loop
-loop-holds c = beginning-none c.before.before.before.requires.size
+loop-holds c = beginning_none c.before.before.before.requires.size
 
 row-quiet-requires : tie.Need-row-quiet-requires invariant-loop decreases-loop
 row-quiet-requires c κs =
@@ -37,13 +37,13 @@ loop-less : tie.Need-loop-smaller invariant-loop decreases-loop
 loop-less c = search rules
 
 loop-again : tie.Need-loop-preserved invariant-loop decreases-loop
-loop-again c = beginning-more c.before.before.before.loop.invariant c.before.before.before.before.before.before.before.requires.few c.before.before.loop-test.true c.before.row-quiet.ensures c.finished-bit.ensures.0 c.finished-bit.ensures.1
+loop-again c = beginning_more c.before.before.before.loop.invariant c.before.before.before.before.before.before.before.requires.few c.before.before.loop-test.true c.before.row-quiet.ensures c.finished-bit.ensures.0 c.finished-bit.ensures.1
 
 same_length : tie.Need-same-length invariant-loop decreases-loop
 same_length c = search rules
 
 returns : tie.Need-returns invariant-loop decreases-loop
-returns c = beginning-all c.before.loop.invariant c.loop-test.false
+returns c = beginning_all c.before.loop.invariant c.loop-test.false
 
 pub begin-spec : {M : Type 1} → statement M
 begin-spec =

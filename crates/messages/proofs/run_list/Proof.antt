@@ -3,9 +3,9 @@ mod Lts
 mod Tie
 use native.Mathlib.Omega.{arith}
 use Rattle.node.proofs.Held.{links-few}
-use Rattle.links.proofs.Listing.{listed-fraction}
-use Rattle.messages.proofs.Listed.{listed-alike}
-use Rattle.messages.proofs.Alike.{held-net-alike, ran-alike}
+use Rattle.links.proofs.Listing.{listed_fraction}
+use Rattle.messages.proofs.Listed.{listed_alike}
+use Rattle.messages.proofs.Alike.{held-net_alike, ran_alike}
 use borrow.Author.Rules.{rules}
 use Rattle.messages.proofs.run_list.Statement.{statement}
 use Rattle.messages.proofs.run_list.Proof.Tie as tie
@@ -17,7 +17,7 @@ slice-aggregate-run-links : tie.Need-slice-aggregate-run-links
 slice-aggregate-run-links c = omega (arith, c.before.list.ensures.size)
 
 run-links-requires : tie.Need-run-links-requires
-run-links-requires c κs = (held-net-alike c.before.before.before.before.before.before.before.before.before.before.before.before.before.before.before.before.before.requires.0 (listed-alike c.before.before.before.list.ensures), c.before.before.before.before.before.before.before.before.before.before.before.before.before.before.before.before.before.requires.1, c.before.before.before.before.before.before.before.before.before.before.before.before.before.before.before.before.before.requires.2, listed-fraction c.before.before.before.list.ensures)
+run-links-requires c κs = (held-net_alike c.before.before.before.before.before.before.before.before.before.before.before.before.before.before.before.before.before.requires.0 (listed_alike c.before.before.before.list.ensures), c.before.before.before.before.before.before.before.before.before.before.before.before.before.before.before.before.before.requires.1, c.before.before.before.before.before.before.before.before.before.before.before.before.before.before.before.before.before.requires.2, listed_fraction c.before.before.before.list.ensures)
 
 same_length : tie.Need-same-length
 same_length c = search rules
@@ -26,7 +26,7 @@ same-length-2 : tie.Need-same-length-2
 same-length-2 c = search rules
 
 returns : tie.Need-returns
-returns c = ran-alike c.before.before.before.before.run-links.ensures (listed-alike c.before.before.before.before.before.before.before.before.list.ensures)
+returns c = ran_alike c.before.before.before.before.run-links.ensures (listed_alike c.before.before.before.before.before.before.before.before.list.ensures)
 
 pub run-list-spec : {M : Type 1} → statement M
 run-list-spec =

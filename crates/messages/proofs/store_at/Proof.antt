@@ -1,6 +1,6 @@
 use mathlib.Core.Path.{sym, ◌∙◌}
 use borrow.Author.Rules.{rules}
-use Rattle.messages.proofs.Storing.{put-again, put_first}
+use Rattle.messages.proofs.Storing.{put_again, put_first}
 use Rattle.messages.proofs.store_at.Statement.{statement}
 use Rattle.messages.proofs.store_at.Tie as tie
 
@@ -23,7 +23,7 @@ same_length : tie.Need-same-length
 same_length c = search rules
 
 returns : tie.Need-returns
-returns c = put-again (sym c.before.is-heard.ensures ∙ c.if1.true)
+returns c = put_again (sym c.before.is-heard.ensures ∙ c.if1.true)
 
 mul-t10-2 : tie.Need-overflow-mul-t10-2
 mul-t10-2 c = search rules

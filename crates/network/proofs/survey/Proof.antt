@@ -1,6 +1,6 @@
 use borrow.Author.Rules.{rules}
 use Prim.Native.Nat.{◌-◌}
-use Rattle.network.proofs.Surveying.{Surveying, surveying-none, surveying-more, surveying-all}
+use Rattle.network.proofs.Surveying.{Surveying, surveying_none, surveying_more, surveying_all}
 use Rattle.network.proofs.survey.Statement.{statement}
 use Rattle.network.proofs.survey.Tie as tie
 
@@ -19,7 +19,7 @@ slice-write-flow-starts c = search rules
 loop-holds : tie.Need-loop-init invariant-loop decreases-loop
 loop-holds c =
     let a = c.before.before.before.before.before in
-    surveying-none a.args.starts.now a.args.flow-starts.now a.args.flow.now a.requires.4 a.requires.5 a.requires.6
+    surveying_none a.args.starts.now a.args.flow-starts.now a.args.flow.now a.requires.4 a.requires.5 a.requires.6
 
 survey-row-requires : tie.Need-survey-row-requires invariant-loop decreases-loop
 survey-row-requires c κs = search rules
@@ -57,7 +57,7 @@ loop-less c = search rules
 loop-again : tie.Need-loop-preserved invariant-loop decreases-loop
 loop-again c =
     let p = c.before.before.before.before.before.before.before.before.before.before.before.before.requires in
-    surveying-more c.before.before.before.before.before.before.loop.invariant c.before.before.before.before.before.loop-test.true p.0 p.1 p.3 p.7 c.before.before.before.survey-row.ensures c.first-wrong.ensures
+    surveying_more c.before.before.before.before.before.before.loop.invariant c.before.before.before.before.before.loop-test.true p.0 p.1 p.3 p.7 c.before.before.before.survey-row.ensures c.first-wrong.ensures
 
 same_length : tie.Need-same-length invariant-loop decreases-loop
 same_length c = search rules
@@ -69,7 +69,7 @@ same-length-3 : tie.Need-same-length-3 invariant-loop decreases-loop
 same-length-3 c = search rules
 
 returns : tie.Need-returns invariant-loop decreases-loop
-returns c = surveying-all c.before.before.before.before.before.before.before.args.h c.before.loop.invariant c.loop-test.false c.before.before.before.before.before.before.before.requires.7
+returns c = surveying_all c.before.before.before.before.before.before.before.args.h c.before.loop.invariant c.loop-test.false c.before.before.before.before.before.before.before.requires.7
 
 pub survey-spec : {M : Type 1} → statement M
 survey-spec =

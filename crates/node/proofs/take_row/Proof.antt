@@ -1,5 +1,5 @@
 use borrow.Author.Rules.{rules}
-use Rattle.node.proofs.Rows.{row-taken}
+use Rattle.node.proofs.Rows.{row_taken}
 use Rattle.node.proofs.take_row.Statement.{statement}
 use Rattle.node.proofs.take_row.Tie as tie
 use Rattle.node.proofs.take_row.Reads as reads
@@ -136,7 +136,7 @@ same_length c = search rules
 
 -- src/lib.rt:46:1
 returns : tie.Need-returns
-returns c = row-taken c.before.before.before.before.before.before.before.before.before.before.before.before.before.before.before.before.before.requires.0 _ _ _ c.before.before.new_row.ensures
+returns c = row_taken c.before.before.before.before.before.before.before.before.before.before.before.before.before.before.before.before.before.requires.0 _ _ _ c.before.before.new_row.ensures
 
 pub take-row-spec : {M : Type 1} → statement M
 take-row-spec =

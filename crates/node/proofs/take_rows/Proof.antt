@@ -1,7 +1,7 @@
 use Prim.Native.Nat.{◌≤◌, ◌-◌}
 use native.Mathlib.Omega.{arith}
 use borrow.Author.Rules.{rules}
-use Rattle.node.proofs.Rows.{Taken, taken_none, taken-row, taken_more, taken-all}
+use Rattle.node.proofs.Rows.{Taken, taken_none, taken_row, taken_more, taken_all}
 use Rattle.node.proofs.take_rows.Statement.{statement}
 use Rattle.node.proofs.take_rows.Tie as tie
 use Rattle.node.proofs.take_rows.Reads as reads
@@ -34,7 +34,7 @@ shared-slice-read-t16 c =
 
 -- src/lib.rt:95:9
 take-row-requires : tie.Need-take-row-requires invariant-loop decreases-loop
-take-row-requires c κs = (taken-row c.before.before.before.before.before.before.before.before.before.before.before.requires.0 c.before.before.before.loop.invariant.0 (search rules), c.before.before.before.before.before.before.before.before.before.before.before.requires.1)
+take-row-requires c κs = (taken_row c.before.before.before.before.before.before.before.before.before.before.before.requires.0 c.before.before.before.loop.invariant.0 (search rules), c.before.before.before.before.before.before.before.before.before.before.before.requires.1)
 
 -- src/lib.rt:106:9
 add-i : tie.Need-overflow-add-i invariant-loop decreases-loop
@@ -54,7 +54,7 @@ same_length c = c.before.loop.invariant.0.long
 
 -- src/lib.rt:77:1
 returns : tie.Need-returns invariant-loop decreases-loop
-returns c = taken-all c.before.loop.invariant.0 (search rules)
+returns c = taken_all c.before.loop.invariant.0 (search rules)
 
 pub take-rows-spec : {M : Type 1} → statement M
 take-rows-spec =

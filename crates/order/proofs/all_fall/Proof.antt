@@ -4,7 +4,7 @@ use mathlib.Core.Path.{◌≡◌}
 use mathlib.Core.Bool.{true}
 use borrow.Author.Rules.{rules}
 use Rattle.order.specs.Inside.{RowsFall}
-use Rattle.order.proofs.Flowing.{rows-fall-more}
+use Rattle.order.proofs.Flowing.{rows_fall_more}
 use Rattle.order.proofs.all_fall.Statement.{statement}
 use Rattle.order.proofs.all_fall.Tie as tie
 
@@ -93,7 +93,7 @@ loop-less : tie.Need-loop-smaller invariant-loop decreases-loop
 loop-less c = search rules
 
 loop-again : tie.Need-loop-preserved invariant-loop decreases-loop
-loop-again c = rows-fall-more c.before.before.before.before.before.before.before.before.before.before.before.before.before.before.before.args.starts.now c.before.before.before.before.before.before.before.before.before.before.before.before.before.before.before.args.flow-starts.now c.before.before.before.before.before.before.before.before.before.before.before.before.before.before.before.args.flow.now c.before.before.before.before.before.before.before.before.before.before.before.before.before.before.before.args.to.now c.before.before.before.before.before.before.before.before.before.before.before.before.before.before.before.args.turn.now c.before.before.before.before.before.before.before.before.before.loop.i c.before.before.before.before.before.before.before.before.before.loop.invariant c.row-falls.ensures
+loop-again c = rows_fall_more c.before.before.before.before.before.before.before.before.before.before.before.before.before.before.before.args.starts.now c.before.before.before.before.before.before.before.before.before.before.before.before.before.before.before.args.flow-starts.now c.before.before.before.before.before.before.before.before.before.before.before.before.before.before.before.args.flow.now c.before.before.before.before.before.before.before.before.before.before.before.before.before.before.before.args.to.now c.before.before.before.before.before.before.before.before.before.before.before.before.before.before.before.args.turn.now c.before.before.before.before.before.before.before.before.before.loop.i c.before.before.before.before.before.before.before.before.before.loop.invariant c.row-falls.ensures
 
 returns : tie.Need-returns invariant-loop decreases-loop
 returns c = λ e i q. c.before.loop.invariant e i (omega arith)

@@ -2,7 +2,7 @@ use Prim.Native.Nat.{◌*◌, ◌-◌}
 use native.Mathlib.Omega.{arith}
 use mathlib.Core.Logic.{⊎_elim}
 use borrow.Author.Rules.{rules}
-use Rattle.order.proofs.Walking.{Walking, walking-none, walking-back, walking_on}
+use Rattle.order.proofs.Walking.{Walking, walking_none, walking_back, walking_on}
 use Rattle.order.proofs.descend.Statement.{statement}
 use Rattle.order.proofs.descend.Tie as tie
 
@@ -13,7 +13,7 @@ abbrev decreases-loop : tie.decreases-loop
 decreases-loop n far order₀ turn₀ path₀ deep₀ b₀ unmet₀ done₀ step₀ order turn path deep b unmet done step = 2 * n - step
 
 loop-holds : tie.Need-loop-init invariant-loop decreases-loop
-loop-holds c = walking-none (search rules) (search rules)
+loop-holds c = walking_none (search rules) (search rules)
 
 mul-loop : tie.Need-overflow-mul-loop invariant-loop decreases-loop
 mul-loop c = search rules
@@ -89,7 +89,7 @@ loop-less c = search rules
 
 loop-again : tie.Need-loop-preserved invariant-loop decreases-loop
 loop-again c = ⊎_elim
-    (λ w. walking-back c.before.before.before.loop.invariant c.before.before.before.before.before.before.before.requires.0 c.before.before.loop-test.true w.2.left w.3 w.4 w.5 w.6 w.7 w.9)
+    (λ w. walking_back c.before.before.before.loop.invariant c.before.before.before.before.before.before.before.requires.0 c.before.before.loop-test.true w.2.left w.3 w.4 w.5 w.6 w.7 w.9)
     (λ w. walking_on c.before.before.before.loop.invariant c.before.before.before.before.before.before.before.requires.0 c.before.before.loop-test.true w.2 w.3 w.4 w.5 (omega (arith, w.1.ensures, w.6)) w.8)
     c.if1.branch
 

@@ -1,6 +1,6 @@
 use borrow.Author.Rules.{rules}
-use Rattle.order.proofs.Flowing.{rowed, tested-order}
-use Rattle.order.proofs.Loops.{order-given, peeled-given, loop-given}
+use Rattle.order.proofs.Flowing.{rowed, tested_order}
+use Rattle.order.proofs.Loops.{order_given, peeled_given, loop_given}
 use Rattle.order.proofs.find_order.Statement.{statement}
 use Rattle.order.proofs.find_order.Tie as tie
 
@@ -20,7 +20,7 @@ same-length-2 : tie.Need-same-length-2
 same-length-2 c = search rules
 
 returns : tie.Need-returns
-returns c = order-given c.before.before.before.before.before.before.before.before.before.before.before.before.before.before.before.before.before.before.before.before.args.h c.before.before.before.before.before.before.before.before.before.before.before.before.before.before.before.before.before.before.before.before.requires.links (tested-order c.before.before.before.before.before.before.before.before.before.before.before.before.before.before.before.before.before.before.before.before.requires (c.before.is-order.ensures c.if1.true)) (search rules, search rules)
+returns c = order_given c.before.before.before.before.before.before.before.before.before.before.before.before.before.before.before.before.before.before.before.before.args.h c.before.before.before.before.before.before.before.before.before.before.before.before.before.before.before.before.before.before.before.before.requires.links (tested_order c.before.before.before.before.before.before.before.before.before.before.before.before.before.before.before.before.before.before.before.before.requires (c.before.is-order.ensures c.if1.true)) (search rules, search rules)
 
 peel-requires : tie.Need-peel-requires
 peel-requires c κs = search rules
@@ -32,7 +32,7 @@ same-length-4 : tie.Need-same-length-4
 same-length-4 c = search rules
 
 returns-2 : tie.Need-returns-2
-returns-2 c = peeled-given c.before.before.before.before.before.before.before.before.before.before.before.before.before.before.before.before.before.before.before.before.before.before.before.before.before.before.before.before.args.h c.before.before.before.before.before.before.before.before.before.before.before.before.before.before.before.before.before.before.before.before.before.before.before.before.before.before.before.before.requires.links c.before.before.before.before.before.peel.ensures c.if2.true
+returns-2 c = peeled_given c.before.before.before.before.before.before.before.before.before.before.before.before.before.before.before.before.before.before.before.before.before.before.before.before.before.before.before.before.args.h c.before.before.before.before.before.before.before.before.before.before.before.before.before.before.before.before.before.before.before.before.before.before.before.before.before.before.before.before.requires.links c.before.before.before.before.before.peel.ensures c.if2.true
 
 find-loop-requires : tie.Need-find-loop-requires
 find-loop-requires c κs = c.before.before.before.before.before.before.before.before.before.before.before.before.before.before.before.before.before.before.before.before.before.before.before.before.before.before.before.before.requires.links
@@ -44,7 +44,7 @@ same-length-6 : tie.Need-same-length-6
 same-length-6 c = search rules
 
 returns-3 : tie.Need-returns-3
-returns-3 c = loop-given c.before.before.before.before.before.before.before.before.before.before.before.before.before.before.before.before.before.before.before.before.before.before.before.before.before.before.before.before.before.args.h c.before.before.before.before.before.before.before.before.before.before.before.before.before.before.before.before.before.before.before.before.before.before.before.before.before.before.before.before.before.requires.links c.before.before.before.before.before.before.peel.ensures c.before.if2.false c.find-loop.ensures
+returns-3 c = loop_given c.before.before.before.before.before.before.before.before.before.before.before.before.before.before.before.before.before.before.before.before.before.before.before.before.before.before.before.before.before.args.h c.before.before.before.before.before.before.before.before.before.before.before.before.before.before.before.before.before.before.before.before.before.before.before.before.before.before.before.before.before.requires.links c.before.before.before.before.before.before.peel.ensures c.before.if2.false c.find-loop.ensures
 
 pub find-order-spec : {M : Type 1} → statement M
 find-order-spec =

@@ -2,7 +2,7 @@ use Prim.Native.Nat.{◌-◌}
 use native.Mathlib.Omega.{arith}
 use borrow.Author.Rules.{rules}
 use Rattle.order.specs.Inside.{BareBelow}
-use Rattle.order.proofs.Taking.{bare-stops, bare-more, bare-all}
+use Rattle.order.proofs.Taking.{bare-stops, bare-more, bare_all}
 use Rattle.order.proofs.is_bare.Statement.{statement}
 use Rattle.order.proofs.is_bare.Tie as tie
 
@@ -51,7 +51,7 @@ loop-again c = let a = c.before.before.before.before.before.before.before.before
     bare-more a.from.now a.to.now a.fraction.now a.turn.now a.tail a.i c.before.before.before.before.before.before.before.loop.j c.before.waits.ensures c.if1.false c.before.before.before.before.before.before.before.loop.invariant
 
 returns-2 : tie.Need-returns-2 invariant-loop decreases-loop
-returns-2 c = bare-all c.before.loop.invariant c.loop-test.false
+returns-2 c = bare_all c.before.loop.invariant c.loop-test.false
 
 pub is-bare-spec : {M : Type 1} → statement M
 is-bare-spec =

@@ -21,7 +21,7 @@ all-fall-requires : tie.Need-all-fall-requires
 all-fall-requires c κs = search rules
 
 returns-3 : tie.Need-returns-3
-returns-3 c = λ e. record { node = c.before.before.before.before.is_inverse.ensures (not-false _ c.before.before.before.if1.false); turn-of = c.before.before.is-inverse2.ensures (not-false _ c.before.if2.false); falls = c.all-fall.ensures e }
+returns-3 c = λ e. record { node = c.before.before.before.before.is_inverse.ensures (not-false _ c.before.before.before.if1.false); turn_of = c.before.before.is-inverse2.ensures (not-false _ c.before.if2.false); falls = c.all-fall.ensures e }
 
 pub is-order-spec : {M : Type 1} → statement M
 is-order-spec =

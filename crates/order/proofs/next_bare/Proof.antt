@@ -1,7 +1,7 @@
 use Prim.Native.Nat.{◌-◌}
 use borrow.Author.Rules.{rules}
 use Rattle.order.specs.Inside.{NotYet}
-use Rattle.order.proofs.Taking.{links-wide, next-none, next_here, next_more, next-all}
+use Rattle.order.proofs.Taking.{links_wide, next-none, next_here, next_more, next_all}
 use Rattle.order.proofs.next_bare.Statement.{statement}
 use Rattle.order.proofs.next_bare.Tie as tie
 
@@ -18,7 +18,7 @@ shared-slice-read-is-bare : tie.Need-shared-slice-read-is-bare invariant-loop de
 shared-slice-read-is-bare c = search rules
 
 is-bare-requires : tie.Need-is-bare-requires invariant-loop decreases-loop
-is-bare-requires c κs = (links-wide c.before.before.before.before.before.before.before.before.requires.0, search rules)
+is-bare-requires c κs = (links_wide c.before.before.before.before.before.before.before.before.requires.0, search rules)
 
 returns : tie.Need-returns invariant-loop decreases-loop
 returns c = next_here c.before.before.before.before.loop.invariant c.before.is-bare.ensures c.if1.true
@@ -33,7 +33,7 @@ loop-again : tie.Need-loop-preserved invariant-loop decreases-loop
 loop-again c = next_more c.before.before.before.before.loop.invariant c.before.is-bare.ensures c.if1.false c.before.before.before.loop-test.true
 
 returns-2 : tie.Need-returns-2 invariant-loop decreases-loop
-returns-2 c = next-all c.before.loop.invariant c.loop-test.false
+returns-2 c = next_all c.before.loop.invariant c.loop-test.false
 
 pub next-bare-spec : {M : Type 1} → statement M
 next-bare-spec =

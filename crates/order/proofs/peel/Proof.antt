@@ -2,7 +2,7 @@ use Prim.Native.Nat.{◌-◌}
 use native.Mathlib.Omega.{arith}
 use borrow.Author.Rules.{rules}
 use Rattle.order.specs.Inside.{Peeled}
-use Rattle.order.proofs.Taking.{peeled-none, peeled-more, peeled-rest, peeled-all}
+use Rattle.order.proofs.Taking.{peeled-none, peeled-more, peeled-rest, peeled_all}
 use Rattle.order.proofs.peel.Statement.{statement}
 use Rattle.order.proofs.peel.Tie as tie
 
@@ -53,7 +53,7 @@ same-length-4 : tie.Need-same-length-4 invariant-loop decreases-loop
 same-length-4 c = search rules
 
 returns-2 : tie.Need-returns-2 invariant-loop decreases-loop
-returns-2 c = peeled-all c.before.loop.invariant c.loop-test.false
+returns-2 c = peeled_all c.before.loop.invariant c.loop-test.false
 
 pub peel-spec : {M : Type 1} → statement M
 peel-spec =

@@ -5,7 +5,7 @@ use mathlib.Core.Bool.{true}
 use lib.ListN.{length}
 use borrow.Author.Rules.{rules}
 use Rattle.order.specs.Inside.{RowFalls}
-use Rattle.order.proofs.Flowing.{row-falls-more}
+use Rattle.order.proofs.Flowing.{row-falls_more}
 use Rattle.order.proofs.row_falls.Statement.{statement}
 use Rattle.order.proofs.row_falls.Tie as tie
 
@@ -43,7 +43,7 @@ loop-less : tie.Need-loop-smaller invariant-loop decreases-loop
 loop-less c = search rules
 
 loop-again : tie.Need-loop-preserved invariant-loop decreases-loop
-loop-again c = (search rules, row-falls-more c.before.before.before.before.before.args.flow.now c.before.before.before.before.before.args.to.now c.before.before.before.before.before.args.turn.now c.before.before.before.before.loop.invariant.1)
+loop-again c = (search rules, row-falls_more c.before.before.before.before.before.args.flow.now c.before.before.before.before.before.args.to.now c.before.before.before.before.before.args.turn.now c.before.before.before.before.loop.invariant.1)
 
 returns : tie.Need-returns invariant-loop decreases-loop
 returns c = λ e m q. c.before.loop.invariant.1 e m (omega arith)

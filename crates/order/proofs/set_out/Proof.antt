@@ -3,7 +3,7 @@ use native.Mathlib.Omega.{arith}
 use mathlib.Core.Path.{◌≡◌}
 use lib.ListN.{length}
 use borrow.Author.Rules.{rules}
-use Rattle.order.proofs.Taking.{Alike, alike-more, alike-inverse}
+use Rattle.order.proofs.Taking.{Alike, alike_more, alike_inverse}
 use Rattle.order.proofs.set_out.Statement.{statement}
 use Rattle.order.proofs.set_out.Tie as tie
 
@@ -36,7 +36,7 @@ loop-less c = search rules
 
 loop-again : tie.Need-loop-preserved invariant-loop decreases-loop
 loop-again c = let h = c.before.loop.invariant in
-    (search rules, search rules, search rules, alike-more c.before.loop.k c.before.loop.order c.before.loop.turn (omega arith) (omega arith) h.3)
+    (search rules, search rules, search rules, alike_more c.before.loop.k c.before.loop.order c.before.loop.turn (omega arith) (omega arith) h.3)
 
 same_length : tie.Need-same-length invariant-loop decreases-loop
 same_length c = search rules
@@ -46,7 +46,7 @@ same-length-2 c = search rules
 
 returns : tie.Need-returns invariant-loop decreases-loop
 returns c = let h = c.before.loop.invariant in
-    let e = alike-inverse c.before.before.args.n c.before.loop.k c.before.loop.order c.before.loop.turn c.loop-test.false h.3 in
+    let e = alike_inverse c.before.before.args.n c.before.loop.k c.before.loop.order c.before.loop.turn c.loop-test.false h.3 in
     (e.0, e.1, h.1, h.2)
 
 pub set-out-spec : {M : Type 1} → statement M

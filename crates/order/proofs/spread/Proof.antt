@@ -3,7 +3,7 @@ use native.Mathlib.Omega.{arith}
 use mathlib.Core.Logic.{⊎_elim}
 use borrow.Author.Rules.{rules}
 use Rattle.order.specs.Inside.{Spread}
-use Rattle.order.proofs.Spreading.{spread_none, spread-taken, spread-left, spread-all}
+use Rattle.order.proofs.Spreading.{spread_none, spread_taken, spread_left, spread_all}
 use Rattle.order.proofs.spread.Statement.{statement}
 use Rattle.order.proofs.spread.Tie as tie
 
@@ -55,15 +55,15 @@ loop-less c = search rules
 loop-again : tie.Need-loop-preserved invariant-loop decreases-loop
 loop-again c = let z = (c.before.before.before.before.before.before.before.before.before.before.before.before.before.requires.0.ends c.before.before.before.before.before.before.before.before.loop.j c.before.before.before.before.before.before.before.loop-test.true).1 in
     ⊎_elim
-    (λ w. spread-taken c.before.before.before.before.before.before.before.before.loop.invariant c.before.leads-on.ensures c.before.before.before.before.before.before.before.loop-test.true (omega (arith, z, c.before.before.before.before.before.before.before.before.loop.invariant.size)) w.0.taken w.1 w.2)
-    (λ w. spread-left c.before.before.before.before.before.before.before.before.loop.invariant c.before.leads-on.ensures w.0.left w.1 w.2)
+    (λ w. spread_taken c.before.before.before.before.before.before.before.before.loop.invariant c.before.leads-on.ensures c.before.before.before.before.before.before.before.loop-test.true (omega (arith, z, c.before.before.before.before.before.before.before.before.loop.invariant.size)) w.0.taken w.1 w.2)
+    (λ w. spread_left c.before.before.before.before.before.before.before.before.loop.invariant c.before.leads-on.ensures w.0.left w.1 w.2)
     c.if1.branch
 
 same_length : tie.Need-same-length invariant-loop decreases-loop
 same_length c = search rules
 
 returns : tie.Need-returns invariant-loop decreases-loop
-returns c = spread-all c.before.loop.invariant c.loop-test.false
+returns c = spread_all c.before.loop.invariant c.loop-test.false
 
 pub spread-spec : {M : Type 1} → statement M
 spread-spec =

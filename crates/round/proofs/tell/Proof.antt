@@ -2,7 +2,7 @@ use Prim.Native.Nat.{◌-◌, ◌≤◌}
 use borrow.Author.Rules.{rules}
 use native.Mathlib.Omega.{arith}
 use Rattle.round.specs.Calculated.{Noted}
-use Rattle.round.proofs.Telling.{noted-none, noted_more, noted-all}
+use Rattle.round.proofs.Telling.{noted_none, noted_more, noted_all}
 use Rattle.round.proofs.tell.Statement.{statement}
 use Rattle.round.proofs.tell.Tie as tie
 
@@ -34,7 +34,7 @@ cast-l : tie.Need-overflow-cast-l invariant-loop decreases-loop
 cast-l c = search rules
 
 loop-holds : tie.Need-loop-init invariant-loop decreases-loop
-loop-holds c = (search rules, search rules, noted-none _ _ _ _)
+loop-holds c = (search rules, search rules, noted_none _ _ _ _)
 
 mul-p : tie.Need-overflow-mul-p invariant-loop decreases-loop
 mul-p c = search rules
@@ -64,7 +64,7 @@ same_length : tie.Need-same-length invariant-loop decreases-loop
 same_length c = search rules
 
 returns : tie.Need-returns invariant-loop decreases-loop
-returns c = noted-all c.before.loop.invariant.2 c.before.loop.invariant.1 c.loop-test.false
+returns c = noted_all c.before.loop.invariant.2 c.before.loop.invariant.1 c.loop-test.false
 
 pub tell-spec : {M : Type 1} → statement M
 tell-spec =

@@ -1,7 +1,7 @@
 use Prim.Native.Nat.{◌-◌}
 use borrow.Author.Rules.{rules}
 use native.Mathlib.Omega.{arith}
-use Rattle.round.proofs.Telling.{Telling, telling-none, places, telling-row, telling-fit, telling-more, telling-all}
+use Rattle.round.proofs.Telling.{Telling, telling_none, places, telling_row, telling_fit, telling_more, telling_all}
 use Rattle.round.proofs.tell_all.Statement.{statement}
 use Rattle.round.proofs.tell_all.Tie as tie
 use Rattle.round.proofs.tell_all.Reads as reads
@@ -17,7 +17,7 @@ abbrev decreases-loop : tie.decreases-loop
 decreases-loop h order traffic starts flow-starts flow line fraction opposite inbox₀ n k₀ inbox k = n - k
 
 loop-holds : tie.Need-loop-init invariant-loop decreases-loop
-loop-holds c = telling-none c.before.before.before.before.before.before.before.before.before.requires.1
+loop-holds c = telling_none c.before.before.before.before.before.before.before.before.before.requires.1
 
 cast-i : tie.Need-overflow-cast-i invariant-loop decreases-loop
 cast-i c = omega (arith, places c.before.before.before.before.before.before.before.before.before.before.before.requires.0 c.loop-test.true)
@@ -35,13 +35,13 @@ shared-slice-read-t22 : tie.Need-shared-slice-read-t22 invariant-loop decreases-
 shared-slice-read-t22 c = omega (arith, places c.before.before.before.before.before.before.before.before.before.before.before.before.before.requires.0 c.before.before.loop-test.true)
 
 message-of-requires : tie.Need-message-of-requires invariant-loop decreases-loop
-message-of-requires c κs = telling-row c.before.before.before.before.before.before.before.before.before.before.before.before.before.before.requires.0 c.before.before.before.loop-test.true c.before.before.before.before.loop.invariant (omega (arith, places c.before.before.before.before.before.before.before.before.before.before.before.before.before.before.requires.0 c.before.before.before.loop-test.true))
+message-of-requires c κs = telling_row c.before.before.before.before.before.before.before.before.before.before.before.before.before.before.requires.0 c.before.before.before.loop-test.true c.before.before.before.before.loop.invariant (omega (arith, places c.before.before.before.before.before.before.before.before.before.before.before.before.before.before.requires.0 c.before.before.before.loop-test.true))
 
 told-by-requires : tie.Need-told-by-requires invariant-loop decreases-loop
 told-by-requires c κs = c.message-of.ensures.small
 
 tell-requires : tie.Need-tell-requires invariant-loop decreases-loop
-tell-requires c κs = telling-fit c.before.before.before.before.before.before.before.before.before.before.before.before.before.before.before.before.before.requires.0 c.before.before.before.before.before.before.loop-test.true c.before.before.before.before.before.before.before.loop.invariant (omega (arith, places c.before.before.before.before.before.before.before.before.before.before.before.before.before.before.before.before.before.requires.0 c.before.before.before.before.before.before.loop-test.true))
+tell-requires c κs = telling_fit c.before.before.before.before.before.before.before.before.before.before.before.before.before.before.before.before.before.requires.0 c.before.before.before.before.before.before.loop-test.true c.before.before.before.before.before.before.before.loop.invariant (omega (arith, places c.before.before.before.before.before.before.before.before.before.before.before.before.before.before.before.before.before.requires.0 c.before.before.before.before.before.before.loop-test.true))
 
 add-k : tie.Need-overflow-add-k invariant-loop decreases-loop
 add-k c = omega (arith, places c.before.before.before.before.before.before.before.before.before.before.before.before.before.before.before.before.before.before.before.before.requires.0 c.before.before.before.before.before.before.before.before.before.loop-test.true)
@@ -50,13 +50,13 @@ loop-less : tie.Need-loop-smaller invariant-loop decreases-loop
 loop-less c = search rules
 
 loop-again : tie.Need-loop-preserved invariant-loop decreases-loop
-loop-again c = telling-more c.before.before.before.before.before.before.before.before.before.before.before.before.before.before.before.before.before.before.before.before.requires.0 c.before.before.before.before.before.before.before.before.before.loop-test.true c.before.before.before.before.before.before.before.before.before.before.loop.invariant c.before.before.before.before.before.message-of.ensures c.before.before.before.before.told-by.ensures.0 c.before.before.tell.ensures
+loop-again c = telling_more c.before.before.before.before.before.before.before.before.before.before.before.before.before.before.before.before.before.before.before.before.requires.0 c.before.before.before.before.before.before.before.before.before.loop-test.true c.before.before.before.before.before.before.before.before.before.before.loop.invariant c.before.before.before.before.before.message-of.ensures c.before.before.before.before.told-by.ensures.0 c.before.before.tell.ensures
 
 same_length : tie.Need-same-length invariant-loop decreases-loop
 same_length c = search rules
 
 returns : tie.Need-returns invariant-loop decreases-loop
-returns c = telling-all c.before.loop.invariant c.loop-test.false
+returns c = telling_all c.before.loop.invariant c.loop-test.false
 
 pub tell-all-spec : {M : Type 1} → statement M
 tell-all-spec =

@@ -1,7 +1,7 @@
 use Prim.Native.Nat.{◌-◌}
 use lib.ListN.{length}
 use borrow.Author.Rules.{rules}
-use Rattle.sheet.proofs.Writing.{Copying, copying-none, copying-more, copying-all}
+use Rattle.sheet.proofs.Writing.{Copying, copying_none, copying_more, copying_all}
 use Rattle.sheet.proofs.copy_front.Statement.{statement}
 use Rattle.sheet.proofs.copy_front.Tie as tie
 
@@ -12,7 +12,7 @@ abbrev decreases-loop : tie.decreases-loop
 decreases-loop b out₀ i₀ out i = length b - i
 
 loop-holds : tie.Need-loop-init invariant-loop decreases-loop
-loop-holds c = copying-none
+loop-holds c = copying_none
 
 shared-slice-read-out : tie.Need-shared-slice-read-out invariant-loop decreases-loop
 shared-slice-read-out c = search rules
@@ -27,13 +27,13 @@ loop-less : tie.Need-loop-smaller invariant-loop decreases-loop
 loop-less c = search rules
 
 loop-again : tie.Need-loop-preserved invariant-loop decreases-loop
-loop-again c = copying-more c.before.before.loop.invariant c.before.loop-test.true c.before.before.before.requires
+loop-again c = copying_more c.before.before.loop.invariant c.before.loop-test.true c.before.before.before.requires
 
 same_length : tie.Need-same-length invariant-loop decreases-loop
 same_length c = search rules
 
 returns : tie.Need-returns invariant-loop decreases-loop
-returns c = copying-all c.before.loop.invariant c.loop-test.false
+returns c = copying_all c.before.loop.invariant c.loop-test.false
 
 pub copy-front-spec : {M : Type 1} → statement M
 copy-front-spec =

@@ -1,6 +1,6 @@
 use native.Mathlib.Omega.{arith}
 use borrow.Author.Tests.{eq-eqb, ne_eqb}
-use Rattle.sheet.proofs.Records.{fault-stops, fault-none}
+use Rattle.sheet.proofs.Records.{fault_stops, fault_none}
 use borrow.Author.Rules.{rules}
 use Rattle.sheet.proofs.node_at.Statement.{statement}
 use Rattle.sheet.proofs.node_at.Tie as tie
@@ -11,7 +11,7 @@ record-fault-requires c κs = search rules
 returns : tie.Need-returns
 returns c =
     let a = c.before.before.before.args in
-    fault-stops a.b.now a.o 2 5 _ c.before.record-fault.ensures.0 c.if1.true
+    fault_stops a.b.now a.o 2 5 _ c.before.record-fault.ensures.0 c.if1.true
 
 add-if2 : tie.Need-overflow-add-if2
 add-if2 c = omega (arith, c.before.record-fault.ensures.1 c.if1.false)
@@ -31,12 +31,12 @@ add-behind c = omega (arith, c.before.before.before.before.record-fault.ensures.
 returns-2 : tie.Need-returns-2
 returns-2 c =
     let a = c.before.before.before.before.before.before.args in
-    simp (eq-eqb _ _ c.before.if2.true, c.word_at.ensures) (fault-none a.b.now a.o 2 5 _ c.before.before.before.before.record-fault.ensures.0 c.before.before.before.if1.false)
+    simp (eq-eqb _ _ c.before.if2.true, c.word_at.ensures) (fault_none a.b.now a.o 2 5 _ c.before.before.before.before.record-fault.ensures.0 c.before.before.before.if1.false)
 
 returns-3 : tie.Need-returns-3
 returns-3 c =
     let a = c.before.before.before.before.before.args in
-    simp (ne_eqb _ _ c.if2.false) (fault-none a.b.now a.o 2 5 _ c.before.before.before.record-fault.ensures.0 c.before.before.if1.false)
+    simp (ne_eqb _ _ c.if2.false) (fault_none a.b.now a.o 2 5 _ c.before.before.before.record-fault.ensures.0 c.before.before.if1.false)
 
 pub node_at_spec : {M : Type 1} → statement M
 node_at_spec =

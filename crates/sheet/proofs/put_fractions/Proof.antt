@@ -1,6 +1,6 @@
 use Prim.Native.Nat.{◌-◌}
 use borrow.Author.Rules.{rules}
-use Rattle.sheet.proofs.Writing.{Filling, filling-none, filling-more, filling-all}
+use Rattle.sheet.proofs.Writing.{Filling, filling_none, filling_more, filling_all}
 use Rattle.sheet.proofs.put_fractions.Statement.{statement}
 use Rattle.sheet.proofs.put_fractions.Tie as tie
 
@@ -11,7 +11,7 @@ abbrev decreases-loop : tie.decreases-loop
 decreases-loop start count fraction out₀ j₀ out j = count - j
 
 loop-holds : tie.Need-loop-init invariant-loop decreases-loop
-loop-holds c = filling-none
+loop-holds c = filling_none
 
 mul-o : tie.Need-overflow-mul-o invariant-loop decreases-loop
 mul-o c = search rules
@@ -38,13 +38,13 @@ loop-less : tie.Need-loop-smaller invariant-loop decreases-loop
 loop-less c = search rules
 
 loop-again : tie.Need-loop-preserved invariant-loop decreases-loop
-loop-again c = filling-more c.before.before.before.before.before.before.loop.invariant c.before.before.before.before.before.loop-test.true c.before.before.before.before.before.before.before.before.before.requires.1 c.before.before.put_word.ensures
+loop-again c = filling_more c.before.before.before.before.before.before.loop.invariant c.before.before.before.before.before.loop-test.true c.before.before.before.before.before.before.before.before.before.requires.1 c.before.before.put_word.ensures
 
 same_length : tie.Need-same-length invariant-loop decreases-loop
 same_length c = search rules
 
 returns : tie.Need-returns invariant-loop decreases-loop
-returns c = filling-all c.before.loop.invariant c.loop-test.false
+returns c = filling_all c.before.loop.invariant c.loop-test.false
 
 pub put-fractions-spec : {M : Type 1} → statement M
 put-fractions-spec =

@@ -1,6 +1,6 @@
 use native.Mathlib.Omega.{arith}
 use lib.ListN.{length-set}
-use Rattle.sheet.proofs.Writing.{four-put}
+use Rattle.sheet.proofs.Writing.{four_put}
 use borrow.Author.Rules.{rules}
 use Rattle.sheet.proofs.put_word.Statement.{statement}
 use Rattle.sheet.proofs.put_word.Tie as tie
@@ -42,7 +42,7 @@ same_length : tie.Need-same-length
 same_length c = search rules
 
 returns : tie.Need-returns
-returns c = four-put c.args.out.now c.args.o _ _ _ _ c.requires
+returns c = four_put c.args.out.now c.args.o _ _ _ _ c.requires
 
 pub put-word-spec : {M : Type 1} → statement M
 put-word-spec =

@@ -1,4 +1,4 @@
-use Rattle.sheet.proofs.Links.{links-wrong, links-ended, links-over}
+use Rattle.sheet.proofs.Links.{links-wrong, links_ended, links-over}
 use borrow.Author.Rules.{rules}
 use Rattle.sheet.proofs.read_links.Statement.{statement}
 use Rattle.sheet.proofs.read_links.Tie as tie
@@ -46,7 +46,7 @@ same-length-8 : tie.Need-same-length-8
 same-length-8 c = search rules
 
 returns-2 : tie.Need-returns-2
-returns-2 c = links-ended c.before.before.before.before.before.before.before.before.before.before.before.before.take-links.ensures c.before.before.before.item-at.ensures c.before.item2.given.1
+returns-2 c = links_ended c.before.before.before.before.before.before.before.before.before.before.before.before.take-links.ensures c.before.before.before.item-at.ensures c.before.item2.given.1
 
 same-length-9 : tie.Need-same-length-9
 same-length-9 c = search rules

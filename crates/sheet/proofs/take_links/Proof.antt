@@ -2,7 +2,7 @@ use Prim.Native.Nat.{◌-◌}
 use native.Mathlib.Omega.{arith}
 use borrow.Author.Rules.{rules}
 use borrow.Author.Tests.{not-true, not-false}
-use Rattle.sheet.proofs.Links.{LinksSoFar, so-far-none, so-far-stop, so_far_more, so-far-full}
+use Rattle.sheet.proofs.Links.{LinksSoFar, so_far_none, so_far_stop, so_far_more, so_far_full}
 use Rattle.sheet.proofs.take_links.Statement.{statement}
 use Rattle.sheet.proofs.take_links.Tie as tie
 
@@ -16,7 +16,7 @@ link-room-requires : tie.Need-link-room-requires invariant-loop decreases-loop
 link-room-requires c κs = search rules
 
 loop-holds : tie.Need-loop-init invariant-loop decreases-loop
-loop-holds c = so-far-none c.before.before.before.before.before.before.requires
+loop-holds c = so_far_none c.before.before.before.before.before.before.requires
 
 link-fields-requires : tie.Need-link-fields-requires invariant-loop decreases-loop
 link-fields-requires c κs = omega (arith, c.before.before.link-room.ensures.fits c.before.loop.k c.loop-test.true, c.before.loop.invariant.at)
@@ -40,7 +40,7 @@ same-length-4 : tie.Need-same-length-4 invariant-loop decreases-loop
 same-length-4 c = search rules
 
 returns : tie.Need-returns invariant-loop decreases-loop
-returns c = so-far-stop c.before.before.before.before.before.loop.invariant (λ i. omega (arith, c.before.before.before.before.before.before.before.before.before.before.before.shared-slice-known.given i)) c.before.before.before.link-fields.ensures c.before.is-next.ensures (not-true _ c.if1.true)
+returns c = so_far_stop c.before.before.before.before.before.loop.invariant (λ i. omega (arith, c.before.before.before.before.before.before.before.before.before.before.before.shared-slice-known.given i)) c.before.before.before.link-fields.ensures c.before.is-next.ensures (not-true _ c.if1.true)
 
 slice-write-from : tie.Need-slice-write-from invariant-loop decreases-loop
 slice-write-from c = search rules
@@ -88,7 +88,7 @@ same-length-8 : tie.Need-same-length-8 invariant-loop decreases-loop
 same-length-8 c = search rules
 
 returns-2 : tie.Need-returns-2 invariant-loop decreases-loop
-returns-2 c = so-far-full c.before.loop.invariant c.before.before.link-room.ensures c.loop-test.false
+returns-2 c = so_far_full c.before.loop.invariant c.before.before.link-room.ensures c.loop-test.false
 
 pub take-links-spec : {M : Type 1} → statement M
 take-links-spec =

@@ -1,4 +1,4 @@
-use Rattle.sheet.proofs.Writing.{filled-written}
+use Rattle.sheet.proofs.Writing.{filled_written}
 use borrow.Author.Rules.{rules}
 use Rattle.sheet.proofs.write_fractions.Statement.{statement}
 use Rattle.sheet.proofs.write_fractions.Tie as tie
@@ -22,7 +22,7 @@ same_length : tie.Need-same-length
 same_length c = search rules
 
 returns : tie.Need-returns
-returns c = filled-written c.before.before.before.before.before.before.before.before.before.before.before.before.requires c.before.before.before.before.before.before.before.copy-front.ensures c.before.before.put-fractions.ensures
+returns c = filled_written c.before.before.before.before.before.before.before.before.before.before.before.before.requires c.before.before.before.before.before.before.before.copy-front.ensures c.before.before.put-fractions.ensures
 
 pub write-fractions-spec : {M : Type 1} → statement M
 write-fractions-spec =

@@ -931,10 +931,10 @@ module _ (claims· : Claims) where
 
       pub record After-row-of : Type 0 where
         pub before : After-to-of
-        pub row-of : After-row-of·own before
+        pub row_of_lem : After-row-of·own before
 
       abbrev pub After-row-of·gave : (c : After-row-of) → s2.gives (m2 c.before.before (After-to-of·gave c.before))
-      After-row-of·gave = λ c. Called.given ps·2 r·2 claims·.5 T3 (record { pos = 1; ty = Syntax.ty_ref (Syntax.named 0) Syntax.imm S-as-Link.behind; ref = λ x. x }, (Num.v_at 6 λ x. x, tt)) (m2 c.before.before (After-to-of·gave c.before)) c.row-of
+      After-row-of·gave = λ c. Called.given ps·2 r·2 claims·.5 T3 (record { pos = 1; ty = Syntax.ty_ref (Syntax.named 0) Syntax.imm S-as-Link.behind; ref = λ x. x }, (Num.v_at 6 λ x. x, tt)) (m2 c.before.before (After-to-of·gave c.before)) c.row_of_lem
 
       abbrev pub m4 : (before : After-to-of) → (given : s2.gives (m2 before.before (After-to-of·gave before))) → Typed.Mo T5
       m4 = λ before given. s3 (m3 before given)
@@ -1138,10 +1138,10 @@ module _ (claims· : Claims) where
         lay4 = λ c. lay6 record { before = c.before; if1 = c.if1 }
 
         lay3 : (c : After-row-of) → at33 (W0 c.before.before.before.κs c.before.before.before.args) (m3 c.before (After-row-of·gave c))
-        lay3 = λ c. ((Row.get 5 T6.locals (m5 c.before (After-row-of·gave c)), Path'.refl {a = m5 c.before (After-row-of·gave c)}, loop-holds record { before = c.before; row-of = c.row-of }), λ vs inv. λ g. (tt, (λ taken. lay4 record { before = record { before = record { before = record { before = c.before; row-of = c.row-of }; loop = record { k = vs; inv = inv } }; struct_known = record { given = g } }; if1 = record { taken = Tests.ltb-true (Row.get 5 T8.locals (m7 record { before = record { before = c.before; row-of = c.row-of }; loop = record { k = vs; inv = inv } } g)) ((RowRange.struct).as_values (Row.get 4 T8.locals (m7 record { before = record { before = c.before; row-of = c.row-of }; loop = record { k = vs; inv = inv } } g))).1.0 taken } }, λ left. lay5 record { before = record { before = record { before = record { before = c.before; row-of = c.row-of }; loop = record { k = vs; inv = inv } }; struct_known = record { given = g } }; if1 = record { left = Tests.ltb-false (Row.get 5 T8.locals (m7 record { before = record { before = c.before; row-of = c.row-of }; loop = record { k = vs; inv = inv } } g)) ((RowRange.struct).as_values (Row.get 4 T8.locals (m7 record { before = record { before = c.before; row-of = c.row-of }; loop = record { k = vs; inv = inv } } g))).1.0 left } })))
+        lay3 = λ c. ((Row.get 5 T6.locals (m5 c.before (After-row-of·gave c)), Path'.refl {a = m5 c.before (After-row-of·gave c)}, loop-holds record { before = c.before; row_of_lem = c.row_of_lem }), λ vs inv. λ g. (tt, (λ taken. lay4 record { before = record { before = record { before = record { before = c.before; row_of_lem = c.row_of_lem }; loop = record { k = vs; inv = inv } }; struct_known = record { given = g } }; if1 = record { taken = Tests.ltb-true (Row.get 5 T8.locals (m7 record { before = record { before = c.before; row_of_lem = c.row_of_lem }; loop = record { k = vs; inv = inv } } g)) ((RowRange.struct).as_values (Row.get 4 T8.locals (m7 record { before = record { before = c.before; row_of_lem = c.row_of_lem }; loop = record { k = vs; inv = inv } } g))).1.0 taken } }, λ left. lay5 record { before = record { before = record { before = record { before = c.before; row_of_lem = c.row_of_lem }; loop = record { k = vs; inv = inv } }; struct_known = record { given = g } }; if1 = record { left = Tests.ltb-false (Row.get 5 T8.locals (m7 record { before = record { before = c.before; row_of_lem = c.row_of_lem }; loop = record { k = vs; inv = inv } } g)) ((RowRange.struct).as_values (Row.get 4 T8.locals (m7 record { before = record { before = c.before; row_of_lem = c.row_of_lem }; loop = record { k = vs; inv = inv } } g))).1.0 left } })))
 
         lay2 : (c : After-to-of) → at34 (W0 c.before.before.κs c.before.before.args) (m2 c.before (After-to-of·gave c))
-        lay2 = λ c. (row-of-requires record { before = c.before; to-of = c.to-of }, λ g. lay3 record { before = record { before = c.before; to-of = c.to-of }; row-of = Called.called ps·2 r·2 claims·.5 T3 (record { pos = 1; ty = Syntax.ty_ref (Syntax.named 0) Syntax.imm S-as-Link.behind; ref = λ x. x }, (Num.v_at 6 λ x. x, tt)) (m2 c.before (After-to-of·gave c)) g })
+        lay2 = λ c. (row-of-requires record { before = c.before; to-of = c.to-of }, λ g. lay3 record { before = record { before = c.before; to-of = c.to-of }; row_of_lem = Called.called ps·2 r·2 claims·.5 T3 (record { pos = 1; ty = Syntax.ty_ref (Syntax.named 0) Syntax.imm S-as-Link.behind; ref = λ x. x }, (Num.v_at 6 λ x. x, tt)) (m2 c.before (After-to-of·gave c)) g })
 
         lay1 : (c : After-link-at) → at35 (W0 c.before.κs c.before.args) (m1 c.before (After-link-at·gave c))
         lay1 = λ c. (to-of-requires record { before = c.before; link_at = c.link_at }, λ g. lay2 record { before = record { before = c.before; link_at = c.link_at }; to-of = Called.called ps·1 r·1 claims·.3 T2 (record { pos = 3; st = List.[]; d = 0; at = λ x. x }, tt) (m1 c.before (After-link-at·gave c)) g })
