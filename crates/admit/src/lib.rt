@@ -1,4 +1,6 @@
 // Opens a sheet: Check's refusals 1 to 8 in their order, and on acceptance all that the later layers need, worked out once.
+#![tactic(auto)]
+
 ghost use Rattle.std.specs.Prelude.{◌≡◌, List, ℕ, ◌≤◌, ◌<◌, length};
 ghost use Rattle.sheet.specs.Held.{Lent};
 ghost use Rattle.admit.specs.Opened.{JudgeAsked, Room, Judged, OpenedGiven};

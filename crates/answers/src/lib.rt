@@ -1,4 +1,6 @@
 // What a call answers: a case for each number of document 01's table.
+#![tactic(auto)]
+
 ghost use Rattle.std.specs.Prelude.{◌≡◌, ◌≤◌, ◌<◌};
 ghost use Rattle.answers.specs.Answers.{number_of, place_of, both, told, packed};
 

@@ -1,4 +1,6 @@
 // The five calls, worked out: each opens its sheet, judges its room, and writes nothing before all is decided.
+#![tactic(auto)]
+
 ghost use Rattle.std.specs.Prelude.{◌≡◌, List, ℕ, ◌≤◌, ◌<◌, length};
 ghost use Rattle.rules.specs.Calls.{check_reply, next_reply, play_reply, frame_reply, house_reply};
 ghost use Rattle.answers.specs.Answers.{both, told, numbers, Answered};

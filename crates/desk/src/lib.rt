@@ -1,6 +1,8 @@
 // One node's desk: what it works out from its own records and from what its neighbours told it.
 // A row is slices of one length: the lines' delays, the fractions, and the words of the far nodes; and the places of the links that flow.
 // No far node is looked at: the links of a row rise by it, so the lower place is the lower far node.
+#![tactic(auto)]
+
 ghost use Rattle.std.specs.Prelude.{◌≡◌, ℕ, ◌+◌, ◌-◌, ◌*◌, ◌/◌, ◌≤◌, ◌<◌, List, leb, length};
 ghost use Rattle.rules.specs.Lists.{total, exists, below};
 ghost use Rattle.rules.specs.Sheet.{whole, largest_step, largest_delay};

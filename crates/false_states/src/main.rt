@@ -3,6 +3,8 @@
 // Otherwise standard input is a case: byte 0 is the question, 1 or 2; bytes 1 and 2 the link that the word is stored on, 3 to 6 its delay,
 // 7 its mark; 8 and 9 the link that is then delivered on, for question 1; the sheet comes behind. A number has its high byte first. The
 // answer to question 1 is what that link carries, to question 2 every link's new fraction, on a line each.
+#![tactic(auto)]
+
 mod plate_a;
 
 ghost use Rattle.std.specs.Prelude.{◌≡◌, [], ◌∷◌, ◌+◌, ◌*◌, ◌≤◌, ◌<◌, length, get_or};

@@ -1,4 +1,6 @@
 // What Frame writes of a state: six bytes a node, taken by the same rules as a message.
+#![tactic(auto)]
+
 ghost use Rattle.std.specs.Prelude.{◌≡◌, ◌∷◌, ◌+◌, ◌≤◌, length};
 ghost use Rattle.rules.specs.Lists.{bit};
 ghost use Rattle.rules.specs.Sheet.{largest_step};

@@ -1,5 +1,7 @@
 // The public calls, and the C interface over them. Each answers for every input. The work is in crates/calls, so that the
 // archive is made of a crate that is checked in seconds.
+#![tactic(auto)]
+
 ghost use Rattle.std.specs.Prelude.{◌≡◌, length};
 ghost use Rattle.rules.specs.Calls.{check_reply, next_reply, play_reply, frame_reply, house_reply};
 ghost use Rattle.answers.specs.Answers.{told, numbers, Answered, packed, Exported};

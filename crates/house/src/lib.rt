@@ -1,4 +1,6 @@
 // House order: each time the lowest link whose message waits. What waits depends only on who has been heard, so one fixed word is stored for every message.
+#![tactic(auto)]
+
 ghost use Rattle.std.specs.Prelude.{◌≡◌, ◌+◌, ◌-◌, ◌^◌, ◌≤◌, ◌<◌, length};
 ghost use Rattle.node.specs.Net.{Empty};
 ghost use Rattle.messages.specs.State.{LinkAt, Counted};

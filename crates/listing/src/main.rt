@@ -1,4 +1,6 @@
 // Prints what one round makes of the sheet on standard input: each link's fraction before and after.
+#![tactic(auto)]
+
 ghost use Rattle.std.specs.Prelude.{◌≤◌};
 
 use answers::Answer;

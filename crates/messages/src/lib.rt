@@ -1,4 +1,6 @@
 // The round as messages: the state in slices that the caller lends, the one delivery function, and a list of deliveries.
+#![tactic(auto)]
+
 ghost use Rattle.std.specs.Prelude.{◌≡◌, ℕ, ◌+◌, ◌≤◌, ◌<◌, ltb, eqb, length, get_or};
 ghost use Rattle.rules.specs.Lists.{bit};
 ghost use Rattle.links.specs.List.{froms, fractions};

@@ -1,4 +1,6 @@
 // What a sheet's links say of its nodes: the rows, and what flows in them.
+#![tactic(auto)]
+
 ghost use Rattle.std.specs.Prelude.{◌≡◌, cond, ℕ, ◌≤◌, ◌<◌, length, get_or, ltb, eqb};
 ghost use Rattle.rules.specs.Lists.{bit, below, first};
 ghost use Rattle.rules.specs.Sheet.{whole};

@@ -1,5 +1,7 @@
 // A node at its desk: its row is lent to crates/desk as parts of the slices that hold the sheet, and nothing else of them.
 // The calculation and the messages both go through these functions.
+#![tactic(auto)]
+
 ghost use Rattle.std.specs.Prelude.{◌≡◌, List, ℕ, ◌+◌, ◌≤◌, ◌<◌, length, get_or};
 ghost use Rattle.rules.specs.Sheet.{largest_step, largest_delay};
 ghost use Rattle.rules.specs.Desk.{message, new_row};

@@ -1,4 +1,6 @@
 // The kinds of number: a fraction, a delay, a traffic figure and a step, each a type of its own with its bound.
+#![tactic(auto)]
+
 ghost use Rattle.std.specs.Prelude.{◌≡◌, ◌≤◌, length};
 ghost use Rattle.rules.specs.Sheet.{line_delay};
 ghost use Rattle.numbers.specs.Kinds.{fraction_of, step_of, delay_of};

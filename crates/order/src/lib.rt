@@ -1,5 +1,7 @@
 // The order of the nodes in which every flowing link leads to an earlier one, or the lowest node on a loop (8).
 // An order is guessed and tested; only where the test fails is it looked for exactly.
+#![tactic(auto)]
+
 ghost use Rattle.std.specs.Prelude.{◌≡◌, true, ◌&&◌, ◌||◌, not, List, ℕ, ◌≤◌, ◌<◌, length, get_or, ltb, leb, eqb};
 ghost use Rattle.rules.specs.Lists.{below, first};
 ghost use Rattle.rules.specs.Loop.{on_loop};

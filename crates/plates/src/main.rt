@@ -1,4 +1,6 @@
 // Writes the class's plates as files, and their bytes in the same order to standard output, where a check compares them.
+#![tactic(auto)]
+
 use libc::STDOUT_FILENO;
 
 // Where the plates differ. All have 3 nodes, destination 0, all six links, and traffic 5 at node 0.

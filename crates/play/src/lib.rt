@@ -1,4 +1,6 @@
 // Play and Frame once their sheet is accepted and there is room: the list is run first, and nothing is written before it is through.
+#![tactic(auto)]
+
 ghost use Rattle.std.specs.Prelude.{◌≡◌, ◌*◌, ◌≤◌, length};
 ghost use Rattle.node.specs.Net.{Empty};
 ghost use Rattle.play.specs.Played.{Accepted, AnyAccepted, Lined, Takable, Ended, Played, Framed};

@@ -1,4 +1,6 @@
 // What the programs share: bytes of a sheet or a frame as numbers to print, and the line of a refusal.
+#![tactic(auto)]
+
 ghost use Rattle.std.specs.Prelude.{◌≤◌};
 
 use answers::Refusal;

@@ -1,5 +1,7 @@
 // The round as a calculation: the nodes, in an order in which every flowing link leads to an earlier one, each tell their word
 // to all their neighbours at once; then each takes its new row. The work is that of the messages, at the same desks.
+#![tactic(auto)]
+
 ghost use Rattle.std.specs.Prelude.{◌+◌, get_or};
 ghost use Rattle.node.specs.Net.{Empty};
 ghost use Rattle.round.specs.Calculated.{Tellable, Noted, Given, ToldFor, CalculatedFor};

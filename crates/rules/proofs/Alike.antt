@@ -2,16 +2,16 @@
 use Prim.Native.Nat.{ℕ, suc, ◌<◌}
 use native.Mathlib.Omega.{arith}
 use native.Mathlib.Decide.{ℕ_discrete}
-use mathlib.Core.Path.{◌≡◌, refl, sym, ap, ap₂, ◌∙◌}
+use mathlib.Core.Path.{◌≡◌, refl, sym, ap, ◌∙◌}
 use mathlib.Core.Logic.{◌↔◌, ◌⊎◌, inl, inr}
-use mathlib.Core.Bool.{Bool, true, false}
+use mathlib.Core.Bool.{true, false}
 use mathlib.Core.List.Memᴰ.{head as here}
 use mathlib.Core.List.Memᴰ.{tail as there}
 use mathlib.Core.List.{List, [], ◌∷◌, Memᴰ as In}
 use lib.ListN.{length, get_or, set, length-set, length-replicate, get_or-replicate}
 use lib.Seq.{ext_get_or, get_or-set_same, get_or-set_other}
 use Rattle.rules.specs.Sheet.{Link, Sheet}
-use Rattle.rules.specs.Desk.{Told, silent, told, heard, Desk, message, status}
+use Rattle.rules.specs.Desk.{Told, silent, told, heard, message, status}
 use Rattle.rules.specs.Round.{full_desk}
 use Rattle.rules.specs.Messages.{State, start, back, desk, link_of, sender, waits_on, waits, deliver, left, run_from, run}
 use Rattle.rules.specs.Calls.{node_frame}

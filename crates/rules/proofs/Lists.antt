@@ -27,6 +27,7 @@ module _ {A : Type 0} where
 
   -- ---- all, any
   pub every_gives : (p : A → Bool) (xs : List A) {x : A} → every p xs ≡ true → In x xs → p x ≡ true
+  every_gives p [] e m = elim m [ ]
   every_gives p (y ∷ xs) e (here q) = ap p q ∙ (and_gives (p y) (every p xs) e).0
   every_gives p (y ∷ xs) e (there m) = every_gives p xs (and_gives (p y) (every p xs) e).1 m
 
@@ -51,6 +52,7 @@ module _ {A : Type 0} where
 
   -- ---- keep
   pub in_keep : (p : A → Bool) (xs : List A) {x : A} → In x (keep p xs) → In x xs × (p x ≡ true)
+  in_keep p [] m = elim m [ ]
   in_keep p (y ∷ xs) {x} m = go (p y) refl m (λ n. in_keep p xs n)
     where
       go : (b : Bool) → p y ≡ b → In x (cond b (y ∷ keep p xs) (keep p xs)) → (In x (keep p xs) → In x xs × (p x ≡ true)) → In x (y ∷ xs) × (p x ≡ true)

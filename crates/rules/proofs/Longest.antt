@@ -104,8 +104,8 @@ turn i j e = go (or_gives (close i j) (close j i) e)
 
 ring_fits : (l : Link) → Ringed l → Fits 64 l
 ring_fits l r = subst (Fits 64) r.is (record {
-  from_in = r.i-in;
-  to_in = r.j-in;
+  from_in = r.i_in;
+  to_in = r.j_in;
   differ = (turn r.i r.j r.next).1;
   loaded = omega arith;
   part = part (eqb r.i (suc r.j));
@@ -118,7 +118,7 @@ ring_fits l r = subst (Fits 64) r.is (record {
 ring_paired : (l : Link) → Ringed l → paired ring.links l ≡ true
 ring_paired l r = subst (λ (x : Link). paired ring.links x ≡ true) r.is
     (exists_holds (opposite (ring_link r.i r.j))
-    (in_rows (below 64) (below_in 64 r.j r.j-in) (Memᴰ.map (ring_link r.j) (keep_in (near r.j) (below_in 64 r.i r.i-in) (turn r.i r.j r.next).0)))
+    (in_rows (below 64) (below_in 64 r.j r.j_in) (Memᴰ.map (ring_link r.j) (keep_in (near r.j) (below_in 64 r.i r.i_in) (turn r.i r.j r.next).0)))
     (and_holds (eqb_self r.j) (eqb_self r.i)))
 
 ring_falls : (l : Link) → Ringed l → flows l ≡ true → l.to < l.from

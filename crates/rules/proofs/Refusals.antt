@@ -200,9 +200,9 @@ module _ (b : List ℕ) (start : ℕ) where
   fail_item (first_item {n} {o} d) k {m} {p} z w =
       let r = behind d 0 [] o (omega arith) (nodes-done b o n) in
       let all : k ≡ 512 = omega arith in
-      let ns : nodes_from r.head.nodes b r.after 0 ≡ read r.traffic o = rw r.many r.nodes-are in
+      let ns : nodes_from r.head.nodes b r.after 0 ≡ read r.traffic o = rw r.many r.nodes_are in
       let ls : links_from 512 b o r.head.nodes none ≡ wrong m p = rw (r.many, ← all) w in
-      rw (r.head-is, ns, ls)
+      rw (r.head_is, ns, ls)
   fail_item (next_item {n} {j} {o} {e} {before} {l} d few q up) k z w =
       fail_item d (suc k) (omega arith) (links_on b o n before q k up ∙ ap (pushed l) w)
 

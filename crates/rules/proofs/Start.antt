@@ -6,7 +6,7 @@ use mathlib.Core.Path.{◌≡◌, sym, ap, ◌∙◌, subst}
 use mathlib.Core.Logic.{◌⊎◌, inl, inr, ◌≢◌}
 use mathlib.Core.Bool.{true, false}
 use mathlib.Core.List.{Memᴰ as In}
-use lib.ListN.{length, get_or, get_or-replicate}
+use lib.ListN.{length, get_or-replicate}
 use borrow.Author.Tests.{ltb-false}
 use Rattle.rules.specs.Lists.{exists}
 use Rattle.rules.specs.Sheet.{Link, Sheet, flows, row_of}

@@ -1,4 +1,6 @@
 // A sheet's records, read from its bytes into slices that the caller lends.
+#![tactic(auto)]
+
 ghost use Rattle.std.specs.Prelude.{◌≡◌, ◌&&◌, ◌+◌, ◌*◌, ◌≤◌, ◌<◌, length, get_or, leb, eqb};
 ghost use Rattle.rules.specs.Bytes.{four};
 ghost use Rattle.rules.specs.Check.{word_at, head_right, head_fields, head_at, node_at, in_range, link_fields, item_at, sheet_at, sheet_alone};

@@ -1,4 +1,6 @@
 // Shows the round as messages: for each delivery of house order its link, then each node's status, delay and mark.
+#![tactic(auto)]
+
 ghost use Rattle.std.specs.Prelude.{◌≤◌};
 
 use answers::Answer;
