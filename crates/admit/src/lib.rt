@@ -7,7 +7,7 @@ ghost use Rattle.admit.specs.Opened.{JudgeAsked, Room, Judged, OpenedGiven};
 
 use sheet::{Found, SheetHeld, SheetRead};
 
-#[derive(Drop)]
+#[derive(Clone, Copy)]
 pub enum Opened {
     Refused(u8, usize),
     Accepted(SheetHeld),

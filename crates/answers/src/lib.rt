@@ -5,7 +5,7 @@ ghost use Rattle.std.specs.Prelude.{◌≡◌, ◌≤◌, ◌<◌};
 ghost use Rattle.answers.specs.Answers.{number_of, place_of, both, told, packed};
 
 // Each with its place.
-#[derive(Drop)]
+#[derive(Clone, Copy)]
 pub enum Refusal {
     CutShort(usize),
     WrongKind(usize),
@@ -21,7 +21,7 @@ pub enum Refusal {
     NoSuchLink(usize),
 }
 
-#[derive(Drop)]
+#[derive(Clone, Copy)]
 pub enum Answer {
     Done(usize),
     Refused(Refusal),

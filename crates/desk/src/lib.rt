@@ -13,18 +13,18 @@ ghost use Rattle.desk.specs.Work.{way_said, Small, way_at, Held, beyond, barrier
 use numbers::{Delay, Fraction, Step, Traffic};
 
 // What a far node told, as one number: 0 while it is silent; else four times its delay, and 1, and 2 more with the blocked mark.
-#[derive(Drop)]
+#[derive(Clone, Copy)]
 pub struct Told(pub u32);
 
 // What a node tells.
-#[derive(Drop)]
+#[derive(Clone, Copy)]
 pub struct Message {
     pub delay: Delay,
     pub blocked: bool,
 }
 
 // A link out, as its node sees it.
-#[derive(Drop)]
+#[derive(Clone, Copy)]
 struct WayHeld {
     line: Delay,
     fraction: Fraction,
@@ -32,14 +32,14 @@ struct WayHeld {
 }
 
 // A sum of delays, each counted by a fraction.
-#[derive(Drop)]
+#[derive(Clone, Copy)]
 struct DelaySum(u64);
 
 // More than any candidate costs.
 const BEYOND: Delay = Delay(Delay::LARGEST.0 * 2);
 
 // A link that may be the best: its cost, with its barrier, and its place.
-#[derive(Drop)]
+#[derive(Clone, Copy)]
 struct Choice {
     cost: Delay,
     place: usize,

@@ -26,7 +26,7 @@ const LARGEST_STORED: u32 = 63 * 1_048_576;
 
 // What is asked: the word that the delivery on a link then stores, with nothing else delivered; or every node's new row, with everything
 // delivered.
-#[derive(Drop)]
+#[derive(Clone, Copy)]
 enum Question {
     Carries(usize),
     Rows,
@@ -34,7 +34,7 @@ enum Question {
 
 // The answer: a word; or how many links have new fractions, which stand in a slice that the caller lends. Nothing is the answer for a
 // sheet that is refused, and for a number that is no link's.
-#[derive(Drop)]
+#[derive(Clone, Copy)]
 enum Follows {
     Nothing,
     Carried(Told),
@@ -42,7 +42,7 @@ enum Follows {
 }
 
 // Node 1's row on plate A: what it sends to 0 directly, and over 2.
-#[derive(Drop)]
+#[derive(Clone, Copy)]
 struct RowHeld {
     direct: Fraction,
     over: Fraction,

@@ -15,7 +15,7 @@ use numbers::{Delay, Step, Traffic};
 use sheet::SheetHeld;
 
 // What a frame shows of a node.
-#[derive(Drop)]
+#[derive(Clone, Copy)]
 struct Shown {
     status: u8,
     blocked: u8,

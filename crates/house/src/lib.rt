@@ -15,7 +15,7 @@ use sheet::SheetHeld;
 const EVERY_NODE: u64 = 0xFFFF_FFFF_FFFF_FFFF;
 
 // A link, and the nodes that are live once it was found.
-#[derive(Drop)]
+#[derive(Clone, Copy)]
 struct Spot {
     link: usize,
     live: u64,

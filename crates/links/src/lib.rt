@@ -14,7 +14,7 @@ use numbers::Fraction;
 use sheet::Found;
 
 // A link's record. Its kind, which is 3, makes it eight whole bytes: a list with a byte to spare in each is cleared slowly.
-#[derive(Drop)]
+#[derive(Clone, Copy)]
 pub struct Link {
     pub kind: u8,
     pub from: u8,
@@ -112,7 +112,7 @@ fn row_start(links: &[Link], i: u16) -> usize
 }
 
 // Where a row begins, and where it ends.
-#[derive(Drop)]
+#[derive(Clone, Copy)]
 pub struct RowRange {
     pub start: usize,
     pub end: usize,

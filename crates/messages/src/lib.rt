@@ -15,11 +15,11 @@ use numbers::{Fraction, Traffic};
 use sheet::SheetHeld;
 
 // How many neighbours a node has still to hear, times 1,024, and how many of them it has a flowing link to.
-#[derive(Drop)]
+#[derive(Clone, Copy)]
 pub struct Quiet(pub u32);
 
 // Deliveries made, nodes finished. A round has one, which each delivery amends where it stands.
-#[derive(Drop)]
+#[derive(Clone, Copy)]
 pub struct Tally {
     pub deliveries: usize,
     pub finished: usize,
@@ -76,7 +76,7 @@ fn hear_one(q: Quiet, x: Fraction) -> Quiet
 }
 
 // What a stored word changes of the tally: nothing where one stood there already; else it is a delivery, and its far node may finish with it.
-#[derive(Drop)]
+#[derive(Clone, Copy)]
 pub enum Change {
     Again,
     Heard,
@@ -284,7 +284,7 @@ pub fn deliver_once(
 }
 
 // Stopped with a refusal's number and place, or the tally of the state that is left.
-#[derive(Drop)]
+#[derive(Clone, Copy)]
 pub enum Ran {
     Stopped(u8, usize),
     Left(Tally),

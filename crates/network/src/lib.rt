@@ -12,11 +12,11 @@ use numbers::Fraction;
 use sheet::{Found, HeadHeld};
 
 // A sum of fractions.
-#[derive(Drop)]
+#[derive(Clone, Copy)]
 pub struct FractionSum(pub u64);
 
 // Where a row and its part of the flow end, and what its fractions add up to.
-#[derive(Drop)]
+#[derive(Clone, Copy)]
 struct RowHeld {
     end: usize,
     filled: usize,

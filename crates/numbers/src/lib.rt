@@ -7,34 +7,34 @@ ghost use Rattle.numbers.specs.Kinds.{fraction_of, step_of, delay_of};
 ghost use Rattle.numbers.specs.Lines.{Table, LinesOf};
 
 // A share of a node's traffic, in units of 1 / 65,536.
-#[derive(Drop)]
+#[derive(Clone, Copy)]
 pub struct Fraction(pub u32);
 
 // A marginal delay.
-#[derive(Drop)]
+#[derive(Clone, Copy)]
 pub struct Delay(pub u32);
 
 // A node's traffic. Every value is allowed.
-#[derive(Drop)]
+#[derive(Clone, Copy)]
 pub struct Traffic(pub u32);
 
 // The step of a round.
-#[derive(Drop)]
+#[derive(Clone, Copy)]
 pub struct Step(pub u32);
 
-#[derive(Drop)]
+#[derive(Clone, Copy)]
 pub enum FractionRead {
     Good(Fraction),
     Beyond,
 }
 
-#[derive(Drop)]
+#[derive(Clone, Copy)]
 pub enum DelayRead {
     Good(Delay),
     Beyond,
 }
 
-#[derive(Drop)]
+#[derive(Clone, Copy)]
 pub enum StepRead {
     Good(Step),
     Beyond,

@@ -4,7 +4,7 @@
 use libc::STDOUT_FILENO;
 
 // Where the plates differ. All have 3 nodes, destination 0, all six links, and traffic 5 at node 0.
-#[derive(Drop)]
+#[derive(Clone, Copy)]
 struct Plate {
     step: u32,
     traffic_1: u32,

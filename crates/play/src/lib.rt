@@ -9,7 +9,7 @@ use messages::Ran;
 use sheet::SheetHeld;
 
 // Number 0 and the value answered, or a refusal's number and its place.
-#[derive(Drop)]
+#[derive(Clone, Copy)]
 pub struct Said {
     pub number: u8,
     pub value: usize,

@@ -8,14 +8,14 @@ ghost use Rattle.sheet.specs.Held.{record_fault, head_said, head_read_said, node
 
 use numbers::{Fraction, Step, Traffic};
 
-#[derive(Drop)]
+#[derive(Clone, Copy)]
 pub struct HeadHeld {
     pub nodes: u8,
     pub destination: u8,
     pub step: Step,
 }
 
-#[derive(Drop)]
+#[derive(Clone, Copy)]
 pub struct LinkHeld {
     pub from: u8,
     pub to: u8,
@@ -24,19 +24,19 @@ pub struct LinkHeld {
 }
 
 // Each answer is a refusal's number and place, or what was read and the offset behind it.
-#[derive(Drop)]
+#[derive(Clone, Copy)]
 enum HeadRead {
     Wrong(u8, usize),
     Read(HeadHeld, usize),
 }
 
-#[derive(Drop)]
+#[derive(Clone, Copy)]
 enum NodeRead {
     Wrong(u8, usize),
     Read(Traffic, usize),
 }
 
-#[derive(Drop)]
+#[derive(Clone, Copy)]
 enum ItemRead {
     Wrong(u8, usize),
     End(usize),
@@ -44,34 +44,34 @@ enum ItemRead {
 }
 
 // The traffic of the nodes stands in the slice.
-#[derive(Drop)]
+#[derive(Clone, Copy)]
 enum NodesRead {
     Wrong(u8, usize),
     Read(usize),
 }
 
 // How many links stand in the slices, and the offset behind the last.
-#[derive(Drop)]
+#[derive(Clone, Copy)]
 struct LinksTaken {
     count: usize,
     behind: usize,
 }
 
 // How many links stand in the slices.
-#[derive(Drop)]
+#[derive(Clone, Copy)]
 enum LinksRead {
     Wrong(u8, usize),
     Read(usize, usize),
 }
 
 // The head, and how many links stand in the slices.
-#[derive(Drop)]
+#[derive(Clone, Copy)]
 pub struct SheetHeld {
     pub head: HeadHeld,
     pub links: usize,
 }
 
-#[derive(Drop)]
+#[derive(Clone, Copy)]
 pub enum SheetRead {
     Wrong(u8, usize),
     Read(SheetHeld, usize),
@@ -401,7 +401,7 @@ pub fn read_alone(
 }
 
 // A first place, or none.
-#[derive(Drop)]
+#[derive(Clone, Copy)]
 pub enum Found {
     Nowhere,
     At(usize),
