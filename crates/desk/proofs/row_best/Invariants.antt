@@ -1,0 +1,10 @@
+use lib.ListN.{length}
+use Rattle.desk.proofs.Choices.{Chosen, chosen_none, chosen_more, chosen_all}
+use borrow.Author.Rules.{rules}
+use Rattle.desk.proofs.row_best.Given as goal
+
+abbrev pub invariant-loop-i : goal.invariant-loop-i
+invariant-loop-i l = Chosen l.line l.fraction l.inbox (length l.fraction) l.i l.b
+
+abbrev pub decreases-loop-i : goal.decreases-loop-i
+decreases-loop-i l = l.i

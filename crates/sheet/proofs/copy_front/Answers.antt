@@ -1,0 +1,14 @@
+use Prim.Native.Nat.{◌-◌}
+use lib.ListN.{length}
+use borrow.Author.Rules.{rules}
+use Rattle.sheet.proofs.Writing.{Copying, copying_none, copying_more, copying_all}
+use Rattle.sheet.proofs.copy_front.Goals as goal
+
+pub loop-i-init : goal.loop-i-init
+loop-i-init c = copying_none
+
+pub loop-i-preserved : goal.loop-i-preserved
+loop-i-preserved c = copying_more c.loop-i.invariant c.loop-i-test.true c.requires
+
+pub returns : goal.returns
+returns c = copying_all c.loop-i.invariant c.loop-i-test.false

@@ -1,0 +1,6 @@
+use Rattle.sheet.proofs.Writing.{filled_written}
+use borrow.Author.Rules.{rules}
+use Rattle.sheet.proofs.write_fractions.Goals as goal
+
+pub returns : goal.returns
+returns c = filled_written c.requires c.copy_front.ensures c.put_fractions.ensures
