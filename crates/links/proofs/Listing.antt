@@ -6,7 +6,7 @@ use native.Mathlib.Decide.{dec_lt}
 use mathlib.Core.Path.{◌≡◌, refl, sym, ap, ap₂, ◌∙◌}
 use mathlib.Core.Bool.{Bool, true, false, cond}
 use mathlib.Core.List.{List, [], ◌∷◌}
-use lib.Dec.{ltb, eqb}
+use lib.Dec.{ltb}
 use lib.ListN.{length, get_or, take, drop, set, length-set, length-map, drop_of_length-le, get_or-map}
 use lib.Seq.{drop-cons, get_or-set_same, get_or-set_other, get_or-take, length-take-le}
 use borrow.Author.Tests.{ltb-true, ltb-false}
@@ -14,7 +14,7 @@ use Rattle.links.specs.declared.Link.{Link}
 use Rattle.links.specs.declared.RowRange.{RowRange}
 use Rattle.links.specs.List.{link_said, no_link, record_of, link_at, row_start, row_range, froms, fractions, turns_at, Listed}
 use Rattle.links.specs.Opposites.{RisesTo, runs}
-use Rattle.rules.specs.Lists.{below, Place, nowhere, at, first}
+use Rattle.rules.specs.Lists.{below, nowhere, first}
 use Rattle.rules.specs.Sheet.{opposite}
 use Rattle.rules.proofs.Tests.{refuted}
 use Rattle.rules.proofs.First.{Searched, searched_none, searched_pass, searched_all, first-same}

@@ -1,5 +1,5 @@
 -- The links as one list of records: the one at a place, a node's row, and the opposite.
-use Rattle.std.specs.Prelude.{ℕ, suc, ◌+◌, ◌≤◌, ◌<◌, ◌≡◌, Bool, cond, List, [], ◌∷◌, map, ltb, length, get_or}
+use Rattle.std.specs.Prelude.{ℕ, suc, ◌+◌, ◌<◌, ◌≡◌, Bool, cond, List, [], ◌∷◌, map, ltb, length, get_or}
 use Rattle.rules.specs.Sheet.{Link as SheetLink, opposite}
 use Rattle.links.specs.declared.Link.{Link}
 use Rattle.links.specs.declared.RowRange.{RowRange}

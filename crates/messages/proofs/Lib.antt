@@ -5,5 +5,4 @@ pub mod Beginning
 pub mod Delivering
 pub mod Running
 pub mod Alike
-mod Lent
 pub mod Listed

@@ -1,5 +1,5 @@
 -- The links of a sheet by node: where each row stands, which of its places flow, and each link's opposite.
-use Rattle.std.specs.Prelude.{ℕ, ◌+◌, ◌-◌, ◌≤◌, ◌<◌, ◌≡◌, List, length, get_or, take, drop}
+use Rattle.std.specs.Prelude.{ℕ, ◌+◌, ◌-◌, ◌≤◌, ◌<◌, ◌≡◌, List, get_or, take, drop}
 use Rattle.rules.specs.Lists.{flowing}
 use Rattle.links.specs.Opposites.{RisesTo}
 
