@@ -1,26 +1,25 @@
 -- What the slices say: each node's desk, a delivery, the outcome.
-use Prim.Native.Nat.{ℕ, zero, suc, ◌+◌, ◌-◌, ◌*◌, ◌/◌, ◌≤◌, ◌<◌}
+use Prim.Native.Nat.{ℕ, zero, suc, ◌+◌, ◌-◌, ◌/◌, ◌≤◌, ◌<◌}
 use native.Mathlib.Omega.{arith}
 use native.Mathlib.Decide.{ℕ_discrete, dec_lt}
-use mathlib.Core.Path.{◌≡◌, refl, sym, ap, ap₂, ◌∙◌, subst}
+use mathlib.Core.Path.{◌≡◌, sym, ap, ap₂, ◌∙◌, subst}
 use mathlib.Core.List.{List, [], ◌∷◌, map, map-map, Memᴰ as In}
 use lib.ListN.{length, get_or, take, drop, set, length-take, length-set, length-map, get_or-eq_default}
 use lib.Seq.{ext_get_or, get_or-take, get_or-set_same, get_or-set_other}
-use Rattle.rules.specs.Lists.{total, counted, below}
-use Rattle.rules.specs.Sheet.{Link, Sheet, whole, row_of, traffic_of, line_delay, with_fraction, with_links, largest_stored}
-use Rattle.rules.specs.Desk.{Told, silent, told, Way, Desk, new_row, new_fraction, message}
-use Rattle.rules.specs.Round.{way_of, desk_of, new_link, rerouted}
-use Rattle.rules.specs.Messages.{State, back, desk, deliver, outcome, sender, no_link, link_of}
-use Rattle.rules.proofs.Sound.{Sound, due_le}
-use Rattle.rules.proofs.Lists.{from_at, table_at, table_out, counted-length, below_length, in_below, get_or_in, map_eq}
+use Rattle.rules.specs.Lists.{counted, below}
+use Rattle.rules.specs.Sheet.{Link, Sheet, traffic_of, line_delay, with_fraction, with_links, largest_stored}
+use Rattle.rules.specs.Desk.{Told, silent, Way, Desk, new_row, new_fraction}
+use Rattle.rules.specs.Round.{way_of, desk_of, new_link}
+use Rattle.rules.specs.Messages.{State, back, desk, outcome, no_link}
+use Rattle.rules.proofs.Sound.{due_le}
+use Rattle.rules.proofs.Lists.{from_at, table_at, counted-length, below_length, in_below, get_or_in, map_eq}
 use Rattle.rules.specs.Check.{rises}
 use Rattle.rules.proofs.Order.{Rising, rises-to}
 use Rattle.rules.proofs.Local.{back-first}
-use Rattle.desk.specs.Ways.{told_of, ways_from, ways_of, desk_with, Row, Rises}
+use Rattle.desk.specs.Ways.{told_of, ways_from, ways_of, desk_with}
 use Rattle.sheet.specs.declared.SheetHeld.{SheetHeld}
 use Rattle.sheet.specs.Held.{held_at, held, sheet_said}
-use Rattle.links.specs.Opposites.{Opposites}
-use Rattle.network.specs.Rows.{part, Rows, Flow}
+use Rattle.network.specs.Rows.{part}
 use Rattle.network.proofs.Rows.{part_length, part-get_or}
 use Rattle.network.proofs.Rows.{row_range_lem, row_sum_lem, held-length, held-at, opposite-turns, opposite-first}
 use mathlib.Core.Bool.{true}

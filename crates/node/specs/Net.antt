@@ -1,7 +1,7 @@
 -- A sheet held in slices, row by row, and what the nodes have heard; the desk of each node.
-use Rattle.std.specs.Prelude.{ℕ, ◌+◌, ◌-◌, ◌*◌, ◌/◌, ◌≤◌, ◌<◌, ◌≡◌, List, map, length, get_or}
+use Rattle.std.specs.Prelude.{ℕ, ◌+◌, ◌-◌, ◌/◌, ◌≤◌, ◌<◌, ◌≡◌, List, map, length, get_or}
 use Rattle.rules.specs.Lists.{below}
-use Rattle.rules.specs.Sheet.{Sheet, largest_delay, line_delay, largest_stored}
+use Rattle.rules.specs.Sheet.{largest_delay, line_delay, largest_stored}
 use Rattle.rules.specs.Desk.{Desk, message, new_row}
 use Rattle.rules.specs.Messages.{State}
 use Rattle.rules.proofs.Sound.{Sound}
