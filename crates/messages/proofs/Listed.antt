@@ -1,6 +1,5 @@
 -- What is read from the list of the links: a link's node and its fraction.
 use Prim.Native.Nat.{ℕ, ◌<◌}
-use native.Mathlib.Omega.{arith}
 use mathlib.Core.Path.{◌≡◌, sym, ap, ap₂, ◌∙◌}
 use mathlib.Core.Bool.{Bool, cond}
 use mathlib.Core.List.{List}
@@ -10,7 +9,7 @@ use Rattle.numbers.specs.declared.Fraction.{Fraction}
 use Rattle.links.specs.declared.Link.{Link}
 use Rattle.links.specs.List.{link_at, froms, fractions, Listed}
 use Rattle.links.proofs.Listing.{from_at, fraction-at, listed_from, listed_froms}
-use Rattle.messages.specs.State.{waits_by, LinkAt, refusal_at, Alike}
+use Rattle.messages.specs.State.{waits_by, refusal_at, Alike}
 
 pub node_is : (ls : List Link) (j : ℕ) {l : Link} {i : ℕ} → l ≡ link_at ls j → i ≡ l.from → i ≡ get_or (froms ls) j 0
 node_is ls j e f = f ∙ ap (λ (l : Link). l.from) e ∙ sym (from_at ls j)
