@@ -1,32 +1,30 @@
 -- 6, 7 and 8, each judged where those before it are not given; and what an accepted sheet has in the slices.
-use Prim.Native.Nat.{ℕ, ◌+◌, ◌*◌, ◌≤◌, ◌<◌}
+use Prim.Native.Nat.{ℕ, ◌+◌, ◌*◌}
 use native.Mathlib.Omega.{arith}
-use mathlib.Core.Path.{◌≡◌, refl, sym, ap, subst, ◌∙◌}
+use mathlib.Core.Path.{◌≡◌, sym, ap, ◌∙◌}
 use mathlib.Core.Bool.{not}
 use mathlib.Core.List.{List}
-use lib.ListN.{length, get_or}
-use Rattle.rules.specs.Lists.{below, Place, nowhere, at, first}
+use lib.ListN.{length}
+use Rattle.rules.specs.Lists.{below, Place, first}
 use Rattle.rules.specs.Sheet.{Sheet}
 use Rattle.rules.specs.Bytes.{AreBytes}
 use Rattle.rules.specs.Loop.{on_loop}
-use Rattle.rules.specs.Judge.{Verdict, refused, accepted, refused_at, paired, adds, judge}
-use Rattle.rules.specs.Check.{wrong, read, sheet_alone, judged, check}
+use Rattle.rules.specs.Judge.{Verdict, accepted, refused_at, adds, judge}
+use Rattle.rules.specs.Check.{sheet_alone, judged, check}
 use Rattle.rules.proofs.Reading.{check_gives, bytes-length}
 use Rattle.rules.proofs.Sound.{Sound}
 use Rattle.sheet.specs.declared.HeadHeld.{HeadHeld}
 use Rattle.sheet.specs.declared.SheetHeld.{SheetHeld}
 use Rattle.sheet.specs.declared.SheetRead.{SheetRead}
 use Rattle.sheet.specs.declared.Found.{Found}
-use Rattle.sheet.specs.Held.{sheet_said, sheet_read_said, held, found_said, Lent, SheetGiven}
+use Rattle.sheet.specs.Held.{sheet_said, sheet_read_said, found_said, Lent, SheetGiven}
 use Rattle.sheet.proofs.Facts.{SheetFacts, given_facts}
-use Rattle.links.specs.Opposites.{Opposites, Paired}
-use Rattle.network.specs.Rows.{Sorted, Rows, Flow}
+use Rattle.links.specs.Opposites.{Paired}
 use Rattle.network.specs.Answers.{Surveyed}
 use Rattle.network.proofs.Rows.{held-length, rising_sorted}
 use Rattle.order.specs.Order as order
-use Rattle.node.specs.Net.{Graph}
 use Rattle.admit.specs.declared.Opened.{Opened}
-use Rattle.admit.specs.Opened.{opened_said, Room, Worked, worked_if, JudgeAsked, Judged, Ready, ready_if, OpenedGiven}
+use Rattle.admit.specs.Opened.{opened_said, Room, worked_if, JudgeAsked, Judged, ready_if, OpenedGiven}
 
 -- the room that the steps leave
 pub room-kept : {ss gs ps os ord turn ss' gs' ps' os' fs ts xs : List ℕ} {h : HeadHeld} {count : ℕ} {w a : Found} → Room ss gs ps os ord turn

@@ -1,6 +1,5 @@
 -- What is known of a sheet once it is opened: Check's verdict, and on acceptance all that the later layers need.
 use Rattle.std.specs.Prelude.{ℕ, ◌+◌, ◌*◌, ◌≤◌, ◌<◌, ◌≡◌, List, length, get_or}
-use Rattle.rules.specs.Sheet.{Sheet}
 use Rattle.rules.specs.Bytes.{bytes}
 use Rattle.rules.specs.Judge.{Verdict, refused, accepted, judge}
 use Rattle.rules.specs.Check.{check}
