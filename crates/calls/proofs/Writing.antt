@@ -1,5 +1,5 @@
 -- What Next needs at each step, once its sheet is accepted.
-use Prim.Native.Nat.{ℕ, zero, suc, ◌≤◌, ◌<◌}
+use Prim.Native.Nat.{ℕ, zero, suc, ◌≤◌}
 use native.Mathlib.Omega.{arith}
 use mathlib.Core.Path.{◌≡◌, refl, sym, ap, ◌∙◌}
 use mathlib.Core.List.{List, ◌++◌}
@@ -7,11 +7,10 @@ use lib.ListN.{length, get_or, take, drop, replicate, length-replicate}
 use lib.Seq.{length-take-le}
 use Rattle.rules.specs.Sheet.{Sheet}
 use Rattle.rules.specs.Bytes.{bytes}
-use Rattle.rules.specs.Round.{next}
 use Rattle.numbers.specs.Lines.{LinesOf}
 use Rattle.sheet.specs.declared.SheetHeld.{SheetHeld}
-use Rattle.sheet.specs.Held.{sheet_said, WriteAsked, FractionsWritten}
-use Rattle.node.specs.Net.{Net, Empty}
+use Rattle.sheet.specs.Held.{WriteAsked, FractionsWritten}
+use Rattle.node.specs.Net.{Empty}
 use Rattle.node.proofs.Held.{links-few}
 use Rattle.house.specs.House.{GraphHeld}
 use Rattle.round.specs.Calculated.{Ordered, Given, CalculatedFor}

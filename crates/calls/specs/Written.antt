@@ -1,5 +1,5 @@
 -- What Next asks and writes once its sheet is accepted and there is room.
-use Rattle.std.specs.Prelude.{ℕ, ◌≤◌, ◌≡◌, List, ◌++◌, length, drop}
+use Rattle.std.specs.Prelude.{ℕ, ◌≡◌, List, ◌++◌, length, drop}
 use Rattle.rules.specs.Bytes.{bytes}
 use Rattle.rules.specs.Round.{next}
 use Rattle.sheet.specs.declared.SheetHeld.{SheetHeld}
