@@ -1,0 +1,13 @@
+use lib.ListN.{length}
+use Rattle.rules.proofs.Demands.{play_values}
+use Rattle.hjerringsel_c.proofs.Exported.{answered_fits, exported}
+use borrow.Author.Rules.{rules}
+use Rattle.hjerringsel_c.proofs.hjerringsel_play.Goals as goal
+
+pub packed_of-requires : goal.packed_of-requires
+packed_of-requires c =
+    answered_fits c.play.ensures
+    (play_values c.args.sheet.now c.args.list.now (length c.args.out.now))
+
+pub returns : goal.returns
+returns c = exported c.packed_of.ensures c.play.ensures
