@@ -4,7 +4,7 @@
 ghost use Rattle.std.specs.Prelude.{◌≤◌};
 
 use answers::Answer;
-use libc::STDOUT_FILENO;
+use std::io;
 
 // The fraction is the last four bytes of a link record, which begins at `at`.
 fn fraction(s: &[u8], at: usize) -> u64
@@ -18,23 +18,17 @@ fn fraction(s: &[u8], at: usize) -> u64
     )
 }
 
-fn print_link(before: &[u8], after: &[u8], at: usize)
+fn print_link(rt: &impl Print, before: &[u8], after: &[u8], at: usize) -> io::Result<()>
     requires { at ≤ 8192 }
 {
-    io::print_decimal(
-        STDOUT_FILENO,
-        printing::wide(printing::byte_at(before, at + 1)),
-    );
-    io::write_all(STDOUT_FILENO, b" ");
-    io::print_decimal(
-        STDOUT_FILENO,
-        printing::wide(printing::byte_at(before, at + 2)),
-    );
-    io::write_all(STDOUT_FILENO, b" ");
-    io::print_decimal(STDOUT_FILENO, fraction(before, at));
-    io::write_all(STDOUT_FILENO, b" ");
-    io::print_decimal(STDOUT_FILENO, fraction(after, at));
-    io::write_all(STDOUT_FILENO, b"\n");
+    rt.print(printing::wide(printing::byte_at(before, at + 1)))?;
+    rt.write_all(b" ")?;
+    rt.print(printing::wide(printing::byte_at(before, at + 2)))?;
+    rt.write_all(b" ")?;
+    rt.print(fraction(before, at))?;
+    rt.write_all(b" ")?;
+    rt.print(fraction(after, at))?;
+    rt.write_all(b"\n")
 }
 
 // The links begin after the head, 7 bytes, and the nodes, 6 bytes each.
@@ -58,31 +52,32 @@ fn count_links(length: usize, first: usize) -> usize
     count
 }
 
-fn print_links(before: &[u8], after: &[u8]) {
+fn print_links(rt: &impl Print, before: &[u8], after: &[u8]) -> io::Result<()> {
     let first = first_link(before);
     let count = count_links(before.len(), first);
     let mut j = 0;
     while j < count {
-        print_link(before, after, first + 8 * j);
+        print_link(rt, before, after, first + 8 * j)?;
         j += 1;
     }
+    Ok(())
 }
 
 // A function of its own, so that what is read keeps its length in the proof.
-fn list(sheet: &[u8]) {
+fn list(rt: &impl Print, sheet: &[u8]) -> io::Result<()> {
     let mut after = [0u8; 8192];
     let answer = hjerringsel::next(sheet, &mut after);
     match answer {
-        Answer::Refused(r) => printing::print_refusal(r),
+        Answer::Refused(r) => printing::print_refusal(rt, r),
         Answer::Done(_) => {
-            io::write_all(STDOUT_FILENO, b"from to before after\n");
-            print_links(sheet, &after);
+            rt.write_all(b"from to before after\n")?;
+            print_links(rt, sheet, &after)
         }
     }
 }
 
-fn main() {
+fn main(rt: HostRuntime) -> io::Result<()> {
     let mut sheet = [0u8; 8192];
-    let n = io::read_full(libc::STDIN_FILENO, &mut sheet);
-    list(&sheet[..n]);
+    let n = printing::read_full(&rt, &mut sheet)?;
+    list(&rt, &sheet[..n])
 }

@@ -1,7 +1,9 @@
 // Writes the class's plates as files, and their bytes in the same order to standard output, where a check compares them.
 #![tactic(auto)]
 
-use libc::STDOUT_FILENO;
+use std::io::Write;
+use std::rt::Files;
+use std::{fs, io};
 
 // Where the plates differ. All have 3 nodes, destination 0, all six links, and traffic 5 at node 0.
 #[derive(Clone, Copy)]
@@ -22,51 +24,43 @@ fn low(x: u32) -> u8 {
 }
 
 // A number of four bytes has the high byte first.
-fn put_four(fd: i32, x: u32) {
-    io::write_all(
-        fd,
-        &[low(x / 16777216), low(x / 65536), low(x / 256), low(x)],
-    );
+fn put_four<W: Write>(out: &mut W, x: u32) -> io::Result<()> {
+    out.write_all(&[low(x / 16777216), low(x / 65536), low(x / 256), low(x)])
 }
 
-fn put_head(fd: i32, step: u32) {
-    io::write_all(fd, &[1, 3, 0]);
-    put_four(fd, step);
+fn put_head<W: Write>(out: &mut W, step: u32) -> io::Result<()> {
+    out.write_all(&[1, 3, 0])?;
+    put_four(out, step)
 }
 
-fn put_node(fd: i32, node: u8, traffic: u32) {
-    io::write_all(fd, &[2, node]);
-    put_four(fd, traffic);
+fn put_node<W: Write>(out: &mut W, node: u8, traffic: u32) -> io::Result<()> {
+    out.write_all(&[2, node])?;
+    put_four(out, traffic)
 }
 
-fn put_link(fd: i32, from: u8, to: u8, load: u8, fraction: u32) {
-    io::write_all(fd, &[3, from, to, load]);
-    put_four(fd, fraction);
+fn put_link<W: Write>(out: &mut W, from: u8, to: u8, load: u8, fraction: u32) -> io::Result<()> {
+    out.write_all(&[3, from, to, load])?;
+    put_four(out, fraction)
 }
 
-fn put_plate(fd: i32, p: Plate) {
-    put_head(fd, p.step);
-    put_node(fd, 0, 5);
-    put_node(fd, 1, p.traffic_1);
-    put_node(fd, 2, p.traffic_2);
-    put_link(fd, 0, 1, 0, 0);
-    put_link(fd, 0, 2, 0, 0);
-    put_link(fd, 1, 0, p.load_10, p.fraction_10);
-    put_link(fd, 1, 2, 0, p.fraction_12);
-    put_link(fd, 2, 0, p.load_20, p.fraction_20);
-    put_link(fd, 2, 1, 0, p.fraction_21);
-    io::write_all(fd, &[9]);
+fn put_plate<W: Write>(out: &mut W, p: Plate) -> io::Result<()> {
+    put_head(out, p.step)?;
+    put_node(out, 0, 5)?;
+    put_node(out, 1, p.traffic_1)?;
+    put_node(out, 2, p.traffic_2)?;
+    put_link(out, 0, 1, 0, 0)?;
+    put_link(out, 0, 2, 0, 0)?;
+    put_link(out, 1, 0, p.load_10, p.fraction_10)?;
+    put_link(out, 1, 2, 0, p.fraction_12)?;
+    put_link(out, 2, 0, p.load_20, p.fraction_20)?;
+    put_link(out, 2, 1, 0, p.fraction_21)?;
+    out.write_all(&[9])
 }
 
-fn save(path: &[u8], p: Plate) {
-    put_plate(STDOUT_FILENO, p);
-    let fd = os::open_overwrite(path);
-    if fd < 0 {
-        os::fail(path);
-        return;
-    }
-    put_plate(fd, p);
-    libc::close(fd);
+fn save<R: Files + Print>(rt: &R, path: &str, p: Plate) -> io::Result<()> {
+    put_plate(&mut io::writer(rt), p)?;
+    let mut file = fs::create(rt, path)?;
+    put_plate(&mut file, p)
 }
 
 // Plate A, but for the traffic of node 1.
@@ -114,10 +108,10 @@ fn plate_a_looped() -> Plate {
     }
 }
 
-fn main() {
-    save(b"plate_a.sheet", plate_a(2));
-    save(b"plate_a_still.sheet", plate_a(0));
-    save(b"plate_b.sheet", plate_b(256));
-    save(b"plate_b_257.sheet", plate_b(257));
-    save(b"plate_a_looped.sheet", plate_a_looped());
+fn main(rt: HostRuntime) -> io::Result<()> {
+    save(&rt, "plate_a.sheet", plate_a(2))?;
+    save(&rt, "plate_a_still.sheet", plate_a(0))?;
+    save(&rt, "plate_b.sheet", plate_b(256))?;
+    save(&rt, "plate_b_257.sheet", plate_b(257))?;
+    save(&rt, "plate_a_looped.sheet", plate_a_looped())
 }

@@ -1,10 +1,27 @@
-// What the programs share: bytes of a sheet or a frame as numbers to print, and the line of a refusal.
+// What the programs share: standard input as bytes, bytes of a sheet or a frame as numbers to print, and the line of a refusal.
 #![tactic(auto)]
 
-ghost use Rattle.std.specs.Prelude.{◌≤◌};
+ghost use Rattle.std.specs.Prelude.{◌≤◌, length, IfOk};
 
 use answers::Refusal;
-use libc::STDOUT_FILENO;
+use std::io;
+use std::io::Read;
+
+// Fills the buffer from standard input, as far as that goes; answers how many bytes there were.
+pub fn read_full<R: Input>(rt: &R, buf: &mut [u8]) -> io::Result<usize>
+    ensures { IfOk result (λ n. n ≤ length buf.new) }
+{
+    let mut reader = rt.reader();
+    let mut n: usize = 0;
+    while n < buf.len() {
+        let more = reader.read(&mut buf[n..])?;
+        if more == 0 {
+            break;
+        }
+        n += more;
+    }
+    Ok(n)
+}
 
 // Answering 0 past the end spares every reader a condition on the bytes.
 pub fn byte_at(s: &[u8], i: usize) -> u8 {
@@ -34,10 +51,10 @@ pub fn joined(a: u8, b: u8, c: u8, d: u8) -> u64 {
 }
 
 // One line: the number and the place.
-pub fn print_refusal(r: Refusal) {
-    io::write_all(STDOUT_FILENO, b"refused ");
-    io::print_decimal(STDOUT_FILENO, answers::number_of(r));
-    io::write_all(STDOUT_FILENO, b" at ");
-    io::print_decimal(STDOUT_FILENO, answers::place_of(r));
-    io::write_all(STDOUT_FILENO, b"\n");
+pub fn print_refusal(rt: &impl Print, r: Refusal) -> io::Result<()> {
+    rt.write_all(b"refused ")?;
+    rt.print(answers::number_of(r))?;
+    rt.write_all(b" at ")?;
+    rt.print(answers::place_of(r))?;
+    rt.write_all(b"\n")
 }
