@@ -1,5 +1,5 @@
 -- False states made by storing a word, and what the code works out from them.
-use Rattle.std.specs.Prelude.{ℕ, ◌*◌, ◌/◌, ◌≤◌, ◌<◌, ◌≡◌, Bool, true, false, List, [], ◌∷◌, map, length, get_or, set}
+use Rattle.std.specs.Prelude.{ℕ, ◌/◌, ◌≤◌, ◌<◌, ◌≡◌, Bool, true, false, List, [], ◌∷◌, map, length, get_or, set}
 use Rattle.rules.specs.Sheet.{Sheet, largest_stored}
 use Rattle.rules.specs.Judge.{accepted}
 use Rattle.rules.specs.Check.{check}

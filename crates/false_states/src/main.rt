@@ -16,10 +16,10 @@ ghost use Rattle.false_states.specs.False.{Placed, SentAsked, Sent, RowsAsked, R
 
 use admit::Opened;
 use desk::{Message, Told};
-use libc::STDOUT_FILENO;
 use messages::Ran;
 use numbers::{Delay, Fraction};
 use sheet::SheetHeld;
+use std::io;
 
 // The largest delay of a stored word that the statements of one delivery speak of.
 const LARGEST_STORED: u32 = 63 * 1_048_576;
@@ -396,20 +396,20 @@ fn row_on_plate_a(delay: Delay) -> RowHeld
     }
 }
 
-fn print_text(text: &[u8]) {
-    io::write_all(STDOUT_FILENO, text);
+fn print_text(rt: &impl Print, text: &[u8]) -> io::Result<()> {
+    rt.write_all(text)
 }
 
-fn print_number(x: u32) {
-    io::print_decimal(STDOUT_FILENO, x as u64);
+fn print_number(rt: &impl Print, x: u32) -> io::Result<()> {
+    rt.print(x)
 }
 
 // What was stored, and where.
-fn print_stored(kind: &[u8], delay: Delay, place: &[u8]) {
-    print_text(kind);
-    print_text(b" word ");
-    print_number(delay.0);
-    print_text(place);
+fn print_stored(rt: &impl Print, kind: &[u8], delay: Delay, place: &[u8]) -> io::Result<()> {
+    print_text(rt, kind)?;
+    print_text(rt, b" word ")?;
+    print_number(rt, delay.0)?;
+    print_text(rt, place)
 }
 
 // A word is four times its delay, and 1, and 2 more with the blocked mark.
@@ -421,64 +421,65 @@ fn mark_in(w: Told) -> u32 {
     w.0 / 2 % 2
 }
 
-fn show_word(kind: &[u8], delay: Delay)
+fn show_word(rt: &impl Print, kind: &[u8], delay: Delay) -> io::Result<()>
     requires { delay.0 ≤ largest_stored }
 {
-    print_stored(kind, delay, b" on (0,1), nothing else delivered: ");
+    print_stored(rt, kind, delay, b" on (0,1), nothing else delivered: ")?;
     let w = word_on_plate_a(delay);
-    print_text(b"(1,2) carries ");
-    print_number(delay_in(w));
+    print_text(rt, b"(1,2) carries ")?;
+    print_number(rt, delay_in(w))?;
     if mark_in(w) == 1 {
-        print_text(b", marked\n");
+        print_text(rt, b", marked\n")
     } else {
-        print_text(b", unmarked\n");
+        print_text(rt, b", unmarked\n")
     }
 }
 
-fn show_row(kind: &[u8], delay: Delay)
+fn show_row(rt: &impl Print, kind: &[u8], delay: Delay) -> io::Result<()>
     requires { delay.0 ≤ largest_stored }
 {
-    print_stored(kind, delay, b" on (2,1), everything delivered: ");
+    print_stored(rt, kind, delay, b" on (2,1), everything delivered: ")?;
     let row = row_on_plate_a(delay);
-    print_text(b"node 1's row ");
-    print_number(row.direct.0);
-    print_text(b" ");
-    print_number(row.over.0);
-    print_text(b"\n");
+    print_text(rt, b"node 1's row ")?;
+    print_number(rt, row.direct.0)?;
+    print_text(rt, b" ")?;
+    print_number(rt, row.over.0)?;
+    print_text(rt, b"\n")
 }
 
-fn show_plate_a() {
-    show_word(b"true", Delay(0));
-    show_word(b"false", Delay(100));
-    show_row(b"true", Delay(16));
-    show_row(b"false", Delay(100));
+fn show_plate_a(rt: &impl Print) -> io::Result<()> {
+    show_word(rt, b"true", Delay(0))?;
+    show_word(rt, b"false", Delay(100))?;
+    show_row(rt, b"true", Delay(16))?;
+    show_row(rt, b"false", Delay(100))
 }
 
-fn print_word(w: Told) {
-    print_text(b"carries ");
-    print_number(delay_in(w));
-    print_text(b" ");
-    print_number(mark_in(w));
-    print_text(b"\n");
+fn print_word(rt: &impl Print, w: Told) -> io::Result<()> {
+    print_text(rt, b"carries ")?;
+    print_number(rt, delay_in(w))?;
+    print_text(rt, b" ")?;
+    print_number(rt, mark_in(w))?;
+    print_text(rt, b"\n")
 }
 
 // A line for each link.
-fn print_fractions(count: usize, fraction: &[u32]) {
+fn print_fractions(rt: &impl Print, count: usize, fraction: &[u32]) -> io::Result<()> {
     let mut j = 0;
     while j < count {
         if j < fraction.len() {
-            print_number(fraction[j]);
+            print_number(rt, fraction[j])?;
         }
-        print_text(b"\n");
+        print_text(rt, b"\n")?;
         j += 1;
     }
+    Ok(())
 }
 
-fn print_follows(f: Follows, fraction: &[u32]) {
+fn print_follows(rt: &impl Print, f: Follows, fraction: &[u32]) -> io::Result<()> {
     match f {
-        Follows::Nothing => print_text(b"no such case\n"),
-        Follows::Carried(w) => print_word(w),
-        Follows::Taken(count) => print_fractions(count, fraction),
+        Follows::Nothing => print_text(rt, b"no such case\n"),
+        Follows::Carried(w) => print_word(rt, w),
+        Follows::Taken(count) => print_fractions(rt, count, fraction),
     }
 }
 
@@ -537,18 +538,18 @@ fn follow_case(b: &[u8], fraction: &mut [u32]) -> Follows
     Follows::Nothing
 }
 
-fn answer(b: &[u8]) {
+fn answer(rt: &impl Print, b: &[u8]) -> io::Result<()> {
     let mut fraction = [0u32; 512];
     let f = follow_case(b, &mut fraction);
-    print_follows(f, &fraction);
+    print_follows(rt, f, &fraction)
 }
 
-fn main() {
+fn main(rt: HostRuntime) -> io::Result<()> {
     let mut input = [0u8; 8192];
-    let n = io::read_full(libc::STDIN_FILENO, &mut input);
+    let n = printing::read_full(&rt, &mut input)?;
     if n == 0 {
-        show_plate_a();
+        show_plate_a(&rt)
     } else {
-        answer(&input[..n]);
+        answer(&rt, &input[..n])
     }
 }

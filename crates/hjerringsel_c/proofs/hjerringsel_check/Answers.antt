@@ -3,7 +3,6 @@ use Rattle.rules.specs.Calls.{check_reply}
 use Rattle.rules.proofs.Demands.{check_values}
 use Rattle.answers.specs.Answers.{packed}
 use Rattle.hjerringsel_c.proofs.Exported.{value-fits}
-use borrow.Author.Rules.{rules}
 use Rattle.hjerringsel_c.proofs.hjerringsel_check.Goals as goal
 
 pub packed_of-requires : goal.packed_of-requires

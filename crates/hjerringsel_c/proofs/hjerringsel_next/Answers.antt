@@ -1,7 +1,6 @@
 use lib.ListN.{length}
 use Rattle.rules.proofs.Demands.{next_values}
 use Rattle.hjerringsel_c.proofs.Exported.{answered_fits, exported}
-use borrow.Author.Rules.{rules}
 use Rattle.hjerringsel_c.proofs.hjerringsel_next.Goals as goal
 
 pub packed_of-requires : goal.packed_of-requires
