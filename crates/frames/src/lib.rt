@@ -42,6 +42,7 @@ fn shown_of(status: u8, m: Message) -> Shown
 }
 
 // What node i shows, with the counts q. With status 0 it knows no delay yet, so none is worked out.
+#[tactic(auto, using(crate::proofs::Framing::shows_nothing))]
 fn show_node(
     s: Step,
     t: Traffic,

@@ -13,7 +13,7 @@ use Rattle.rules.specs.Lists.{below}
 use Rattle.rules.specs.Sheet.{Link, Sheet, whole, largest_step}
 use Rattle.rules.specs.Bytes.{AreBytes, bytes}
 use Rattle.rules.specs.Messages.{no_link}
-use Rattle.rules.specs.Check.{Read, wrong, read, then, head_at, nodes_from, rises, links_from, sheet_with, sheet_at, alone, sheet_alone}
+use Rattle.rules.specs.Check.{wrong, read, then, head_at, nodes_from, rises, links_from, sheet_with, sheet_at, alone, sheet_alone}
 use Rattle.rules.proofs.Lists.{get_or_in, below_length, table_at}
 use Rattle.rules.proofs.Order.{Less, Rising, rises_less, chain_rising}
 use Rattle.rules.proofs.Sound.{Fits}

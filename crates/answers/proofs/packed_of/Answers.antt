@@ -1,6 +1,5 @@
 use Rattle.answers.proofs.Packed.{packed-done, packed-refused, place-low}
 use native.Mathlib.Omega.{arith}
-use borrow.Author.Rules.{rules}
 use Rattle.answers.proofs.packed_of.Goals as goal
 
 pub overflow_add-result : goal.overflow_add-result

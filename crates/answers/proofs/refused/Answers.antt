@@ -1,6 +1,5 @@
 use mathlib.Core.Path.{ap₂}
 use Rattle.answers.specs.Answers.{both}
-use borrow.Author.Rules.{rules}
 use Rattle.answers.proofs.refused.Goals as goal
 
 pub returns : goal.returns

@@ -1,4 +1,3 @@
-use borrow.Author.Rules.{rules}
 use Rattle.desk.proofs.cut_of.Goals as goal
 
 pub returns : goal.returns

@@ -1,7 +1,6 @@
 use Prim.Native.Nat.{◌-◌}
 use mathlib.Core.Path.{refl}
-use Rattle.desk.proofs.Shares.{Cutting, cutting_none, cutting_held, cutting_more, cutting_small, cutting_length, cutting_all}
-use borrow.Author.Rules.{rules}
+use Rattle.desk.proofs.Shares.{cutting_none, cutting_held, cutting_more, cutting_small, cutting_length, cutting_all}
 use native.Mathlib.Omega.{arith}
 use Rattle.desk.proofs.cut_row.Goals as goal
 

@@ -1,8 +1,4 @@
-use Prim.Native.Nat.{◌-◌}
-use mathlib.Core.Path.{refl}
-use Rattle.desk.proofs.Shares.{Cutting, cutting_none, cutting_held, cutting_more, cutting_small, cutting_length, cutting_all}
-use borrow.Author.Rules.{rules}
-use native.Mathlib.Omega.{arith}
+use Rattle.desk.proofs.Shares.{Cutting}
 use Rattle.desk.proofs.cut_row.Given as goal
 
 abbrev pub invariant-loop-j : goal.invariant-loop-j

@@ -1,6 +1,5 @@
 use Rattle.desk.specs.Work.{way_said}
 use Rattle.desk.proofs.Places.{blocks_is}
-use borrow.Author.Rules.{rules}
 use Rattle.desk.proofs.is_blocking.Goals as goal
 
 pub returns : goal.returns

@@ -1,5 +1,4 @@
-use lib.ListN.{length}
-use Rattle.desk.proofs.Choices.{Chosen, chosen_none, chosen_more, chosen_all}
+use Rattle.desk.proofs.Choices.{chosen_none, chosen_more, chosen_all}
 use borrow.Author.Rules.{rules}
 use Rattle.desk.proofs.row_best.Goals as goal
 

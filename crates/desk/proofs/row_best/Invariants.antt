@@ -1,6 +1,5 @@
 use lib.ListN.{length}
-use Rattle.desk.proofs.Choices.{Chosen, chosen_none, chosen_more, chosen_all}
-use borrow.Author.Rules.{rules}
+use Rattle.desk.proofs.Choices.{Chosen}
 use Rattle.desk.proofs.row_best.Given as goal
 
 abbrev pub invariant-loop-i : goal.invariant-loop-i

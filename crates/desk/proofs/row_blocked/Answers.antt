@@ -1,7 +1,5 @@
 use Prim.Native.Nat.{◌-◌}
-use Rattle.rules.specs.Lists.{exists}
-use Rattle.rules.specs.Desk.{blocks}
-use Rattle.desk.proofs.Places.{Folded, folded_none, folded_all, any_more, flows-at, flows-said, held}
+use Rattle.desk.proofs.Places.{folded_none, folded_all, any_more, flows-at, flows-said, held}
 use borrow.Author.Rules.{rules}
 use native.Mathlib.Omega.{arith}
 use Rattle.desk.proofs.row_blocked.Goals as goal

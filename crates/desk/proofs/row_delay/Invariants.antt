@@ -1,10 +1,6 @@
-use Prim.Native.Nat.{ℕ, ◌-◌, ◌/◌}
-use mathlib.Core.Path.{refl, ap, ◌∙◌}
 use Rattle.rules.specs.Lists.{total}
 use Rattle.rules.specs.Desk.{weighed}
-use Rattle.desk.proofs.Places.{Folded, folded_none, folded_all, sum_more, weighed-fits, flows-at, held}
-use borrow.Author.Rules.{rules}
-use native.Mathlib.Omega.{arith}
+use Rattle.desk.proofs.Places.{Folded}
 use Rattle.desk.proofs.row_delay.Given as goal
 
 abbrev pub invariant-loop-j : goal.invariant-loop-j

@@ -1,5 +1,4 @@
 use Rattle.desk.proofs.Places.{message_is}
-use borrow.Author.Rules.{rules}
 use Rattle.desk.proofs.row_message.Goals as goal
 
 pub returns : goal.returns

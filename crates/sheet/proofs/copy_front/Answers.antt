@@ -1,7 +1,4 @@
-use Prim.Native.Nat.{◌-◌}
-use lib.ListN.{length}
-use borrow.Author.Rules.{rules}
-use Rattle.sheet.proofs.Writing.{Copying, copying_none, copying_more, copying_all}
+use Rattle.sheet.proofs.Writing.{copying_none, copying_more, copying_all}
 use Rattle.sheet.proofs.copy_front.Goals as goal
 
 pub loop-i-init : goal.loop-i-init

@@ -1,7 +1,6 @@
 use Prim.Native.Nat.{◌-◌}
 use lib.ListN.{length}
-use borrow.Author.Rules.{rules}
-use Rattle.sheet.proofs.Writing.{Copying, copying_none, copying_more, copying_all}
+use Rattle.sheet.proofs.Writing.{Copying}
 use Rattle.sheet.proofs.copy_front.Given as goal
 
 abbrev pub invariant-loop-i : goal.invariant-loop-i

@@ -3,7 +3,6 @@ use Prim.Native.Nat.{◌+◌}
 use mathlib.Core.Path.{◌∙◌}
 use Rattle.rules.specs.Check.{read, head_right}
 use Rattle.sheet.proofs.Records.{fault_stops, fault_none, fields_right, fields_wrong}
-use borrow.Author.Rules.{rules}
 use Rattle.sheet.proofs.head_at.Goals as goal
 
 pub returns-then-fault-ne0 : goal.returns-then-fault-ne0

@@ -1,5 +1,4 @@
 use borrow.Author.Tests.{lt-leb, le-leb, eq-eqb, ne_eqb}
-use borrow.Author.Rules.{rules}
 use Rattle.sheet.proofs.is_next.Goals as goal
 
 pub returns-then-key_of-least : goal.returns-then-key_of-least

@@ -4,7 +4,6 @@ use Prim.Native.Nat.{◌+◌}
 use mathlib.Core.Path.{sym, ◌∙◌}
 use Rattle.rules.specs.Check.{read, link, in_range}
 use Rattle.sheet.proofs.Records.{fault_stops, fault_none, fields_right, fields_wrong}
-use borrow.Author.Rules.{rules}
 use Rattle.sheet.proofs.item_at.Goals as goal
 
 pub overflow_add-past : goal.overflow_add-past

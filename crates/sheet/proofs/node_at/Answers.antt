@@ -1,7 +1,6 @@
 use native.Mathlib.Omega.{arith}
 use borrow.Author.Tests.{eq-eqb, ne_eqb}
 use Rattle.sheet.proofs.Records.{fault_stops, fault_none}
-use borrow.Author.Rules.{rules}
 use Rattle.sheet.proofs.node_at.Goals as goal
 
 pub returns-then-fault-ne0 : goal.returns-then-fault-ne0

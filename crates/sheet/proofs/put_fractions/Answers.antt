@@ -1,6 +1,4 @@
-use Prim.Native.Nat.{◌-◌}
-use borrow.Author.Rules.{rules}
-use Rattle.sheet.proofs.Writing.{Filling, filling_none, filling_more, filling_all}
+use Rattle.sheet.proofs.Writing.{filling_none, filling_more, filling_all}
 use Rattle.sheet.proofs.put_fractions.Goals as goal
 
 pub loop-j-init : goal.loop-j-init

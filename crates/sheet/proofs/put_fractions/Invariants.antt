@@ -1,6 +1,5 @@
 use Prim.Native.Nat.{◌-◌}
-use borrow.Author.Rules.{rules}
-use Rattle.sheet.proofs.Writing.{Filling, filling_none, filling_more, filling_all}
+use Rattle.sheet.proofs.Writing.{Filling}
 use Rattle.sheet.proofs.put_fractions.Given as goal
 
 abbrev pub invariant-loop-j : goal.invariant-loop-j

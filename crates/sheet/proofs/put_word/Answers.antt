@@ -1,7 +1,6 @@
 use native.Mathlib.Omega.{arith}
 use lib.ListN.{length-set}
 use Rattle.sheet.proofs.Writing.{four_put}
-use borrow.Author.Rules.{rules}
 use Rattle.sheet.proofs.put_word.Goals as goal
 
 pub bounds-out-o-2 : goal.bounds-out-o-2

@@ -1,5 +1,4 @@
 use Rattle.sheet.proofs.Whole.{given_wrong, given_more, given_alone}
-use borrow.Author.Rules.{rules}
 use Rattle.sheet.proofs.read_alone.Goals as goal
 
 pub returns-in-Wrong : goal.returns-in-Wrong

@@ -1,5 +1,4 @@
 use Rattle.sheet.proofs.Links.{links-wrong, links_ended, links-over}
-use borrow.Author.Rules.{rules}
 use Rattle.sheet.proofs.read_links.Goals as goal
 
 pub returns-in-Wrong : goal.returns-in-Wrong

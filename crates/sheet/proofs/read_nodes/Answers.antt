@@ -1,8 +1,6 @@
-use borrow.Author.Rules.{rules}
-use Prim.Native.Nat.{◌-◌}
 use mathlib.Core.Path.{sym, ap, ◌∙◌}
 use Rattle.sheet.specs.Held.{node_read_said}
-use Rattle.sheet.proofs.Nodes.{NodesSoFar, so_far_none, so_far_wrong, so_far_more, so_far_all}
+use Rattle.sheet.proofs.Nodes.{so_far_none, so_far_wrong, so_far_more, so_far_all}
 use Rattle.sheet.proofs.read_nodes.Goals as goal
 
 pub loop-i-init : goal.loop-i-init

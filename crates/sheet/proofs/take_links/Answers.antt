@@ -1,8 +1,5 @@
-use Prim.Native.Nat.{◌-◌}
 use native.Mathlib.Omega.{arith}
-use borrow.Author.Rules.{rules}
-use borrow.Author.Tests.{not-true, not-false}
-use Rattle.sheet.proofs.Links.{LinksSoFar, so_far_none, so_far_stop, so_far_more, so_far_full}
+use Rattle.sheet.proofs.Links.{so_far_none, so_far_stop, so_far_more, so_far_full}
 use Rattle.sheet.proofs.take_links.Goals as goal
 
 pub loop-k-init : goal.loop-k-init

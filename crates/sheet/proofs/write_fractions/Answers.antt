@@ -1,5 +1,4 @@
 use Rattle.sheet.proofs.Writing.{filled_written}
-use borrow.Author.Rules.{rules}
 use Rattle.sheet.proofs.write_fractions.Goals as goal
 
 pub returns : goal.returns
