@@ -25,7 +25,7 @@ fn main() {
     let archive = folder.join(ARCHIVE);
     println!("cargo:rerun-if-changed={}", archive.display());
     if !archive.is_file() {
-        eprintln!("the library {} is missing: run rt staticlib hjerringsel first", archive.display());
+        eprintln!("the library {} is missing: run tools/build first", archive.display());
         eprintln!("(or name its folder in the environment variable HJERRINGSEL_LIB_DIR)");
         exit(1);
     }

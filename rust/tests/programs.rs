@@ -1,4 +1,4 @@
-//! Runs the programs that `rt check` builds, as a teacher does: on the plates, and on sheets that are refused.
+//! Runs the programs that `tools/build` builds, as a teacher does: on the plates, and on sheets that are refused.
 
 mod common;
 

@@ -32,7 +32,7 @@ use Rattle.messages.specs.declared.Ran.TheVariants.{Stopped, Left}
 use Rattle.messages.specs.State.{Kept, LinkAt, Counted, step_of, Spare, Stored, Begun}
 use Rattle.messages.specs.Round.{Deliverable, Delivered, ListRun}
 use Rattle.messages.proofs.Beginning.{state_start, begun_kept}
-use Rattle.messages.proofs.Storing.{link_at, counted-kept, spare-kept}
+use Rattle.messages.proofs.Storing.{link_at_lem, counted-kept, spare-kept}
 use Rattle.messages.proofs.Delivering.{deliverable}
 use Rattle.messages.proofs.Running.{run_small}
 use Rattle.house.specs.House.{GraphHeld, HouseWritten}
@@ -102,7 +102,7 @@ module _ {j w k : ℕ} {h : SheetHeld} {tr fs ss gs ps line xs os inbox qs₀ : 
   net = asked.held.net
 
   pub storable : LinkAt j fs xs os inbox qs × Counted j fs xs os inbox qs × (0 < w)
-  storable = (link_at (begun_now net) asked.stored, counted-kept (begun_now net) asked.stored, asked.word.heard)
+  storable = (link_at_lem (begun_now net) asked.stored, counted-kept (begun_now net) asked.stored, asked.word.heard)
 
   pub steppable : Spare t
   steppable = spare-kept (begun_now net)
@@ -117,7 +117,7 @@ module _ {j w k : ℕ} {h : SheetHeld} {tr fs ss gs ps line xs os inbox qs₀ : 
     module _ {inbox'' qs'' : List ℕ} {t'' : Tally} (done : Delivered h k tr fs ss gs ps line xs os inbox' qs' inbox'' qs'' t' t'') where
       pub placed : Placed k os inbox''
       placed =
-          let at = link_at (done.keeps net (false_now net) asked.sent) asked.sent in
+          let at = link_at_lem (done.keeps net (false_now net) asked.sent) asked.sent in
           record { link = omega (arith, at.low, at.opposite-size); place = omega (arith, at.place, at.inbox_size) }
 
       pub sent : {r : ℕ} → r ≡ get_or inbox'' (get_or os k 0) 0 → Sent r j w k h tr fs ss gs ps line xs os
@@ -155,7 +155,7 @@ module _ {j w : ℕ} {h : SheetHeld} {tr fs ss gs ps line xs os inbox₀ qs₀ :
     its = asked.held.net
 
     pub storable_left : LinkAt j fs xs os inbox qs × Counted j fs xs os inbox qs × (0 < w)
-    storable_left = (link_at (kept-left its) asked.stored, counted-kept (kept-left its) asked.stored, asked.word.heard)
+    storable_left = (link_at_lem (kept-left its) asked.stored, counted-kept (kept-left its) asked.stored, asked.word.heard)
 
     module _ {inbox' qs' : List ℕ} {c : Change} (put : Stored j w fs xs os inbox qs inbox' qs' c) where
       size_now : length inbox' ≡ 512

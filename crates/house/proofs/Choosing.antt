@@ -29,7 +29,7 @@ use Rattle.messages.specs.declared.Tally.{Tally}
 use Rattle.messages.specs.declared.Change.{Change}
 use Rattle.messages.specs.State.{waiting_at, step_of, Kept, LinkAt, Counted, Stored, RowsAt, Begun}
 use Rattle.messages.proofs.Counts.{heard-set}
-use Rattle.messages.proofs.Storing.{from_in, waits_kept, link_at, counted-kept}
+use Rattle.messages.proofs.Storing.{from_in, waits_kept, link_at_lem, counted-kept}
 use Rattle.messages.proofs.Beginning.{rows_at, state_start, begun_kept}
 use Rattle.house.specs.declared.Spot.{Spot}
 use Rattle.house.specs.House.{Passed, Searchable, LowestAt, Found, ChosenStored, GraphHeld, HouseWritten}
@@ -195,7 +195,7 @@ module _ {h : SheetHeld} {fs ss gs xs os : List ℕ} (held : GraphHeld h fs ss g
         record {
           few = held.graph.sound.few;
           start-size = held.graph.start-size;
-          links = λ j b. link_at now.kept b;
+          links = λ j b. link_at_lem now.kept b;
           rows = held.graph.rows;
           sorted = rising_sorted h.links fs held.ts held.ls xs held.graph.sound.rising (λ j b. from_in now.kept b);
           passed = inv.passed;
@@ -213,7 +213,7 @@ module _ {h : SheetHeld} {fs ss gs xs os : List ℕ} (held : GraphHeld h fs ss g
 
     module _ {r : Spot} {cs' : List ℕ} (found : Found h r fs xs os inbox qs cs') where
       pub choosing_link : LinkAt r.link fs xs os inbox qs
-      choosing_link = link_at now.kept found.lowest.inside
+      choosing_link = link_at_lem now.kept found.lowest.inside
 
       pub choosing_counted : Counted r.link fs xs os inbox qs
       choosing_counted = counted-kept now.kept found.lowest.inside

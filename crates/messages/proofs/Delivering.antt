@@ -24,14 +24,14 @@ use Rattle.messages.specs.declared.Tally.{Tally}
 use Rattle.messages.specs.declared.Change.{Change}
 use Rattle.messages.specs.State.{step_of, Kept, CountedAt, StoredAt, Stored}
 use Rattle.messages.specs.Round.{Deliverable, Delivered}
-use Rattle.messages.proofs.Storing.{from_in, link_at, counted-kept, spare-kept, stored_at}
+use Rattle.messages.proofs.Storing.{from_in, link_at_lem, counted-kept, spare-kept, stored_at_lem}
 
 module _ {h : SheetHeld} {tr fs ts ls xs ss gs ps os line : List ℕ} (net : Net h tr fs ts ls xs ss gs ps os line) {inbox qs : List ℕ} {t : Tally} (kept : Kept h tr fs ts ls xs ss os inbox qs t) {j : ℕ} (inside : j < h.links) where
   pub deliverable : SmallInbox inbox → Deliverable h.head.step.0 j tr fs ss gs ps line xs os inbox qs t
   deliverable small = record {
     step-top = net.graph.sound.step-top;
     traffic = net.graph.traffic-size;
-    link = link_at kept inside;
+    link = link_at_lem kept inside;
     row = row-held net inbox kept.inbox_size (get_or fs j 0) (from_in kept inside) small;
     counted = counted-kept kept inside;
     spare = spare-kept kept;
@@ -71,7 +71,7 @@ pub delivered_by : {h : SheetHeld} {j i b x w : ℕ} {tr fs ss gs ps line xs os 
     → i ≡ get_or fs j 0 → b ≡ get_or fs (get_or os j 0) 0 → x ≡ get_or xs (get_or os j 0) 0 → 0 < w
     → Tells m h.head.step.0 (get_or tr i 0) ss line xs inbox i → told_of w ≡ message_said m
     → StoredAt (get_or os j 0) b x w inbox qs inbox' qs' c → t' ≡ step_of t c → Delivered h j tr fs ss gs ps line xs os inbox qs inbox' qs' t t'
-delivered_by near far part some tells word put amended = delivered_is (rw near at tells) word (stored_at some (rw (far, part) at put)) amended
+delivered_by near far part some tells word put amended = delivered_is (rw near at tells) word (stored_at_lem some (rw (far, part) at put)) amended
 
 -- ---- in a right state the stored delays are small
 told-delay : (x : ℕ) → delay_told (told_of x) ≡ x / 4

@@ -22,7 +22,7 @@ use Rattle.messages.specs.declared.Ran.{Ran}
 use Rattle.messages.specs.declared.Ran.TheVariants.{Stopped, Left}
 use Rattle.messages.specs.State.{waiting_at, refusal_at, Kept, LinkAt, Begun}
 use Rattle.messages.specs.Round.{Deliverable, Delivered, NetHeld, ListRun}
-use Rattle.messages.proofs.Storing.{waits_kept, link_at}
+use Rattle.messages.proofs.Storing.{waits_kept, link_at_lem}
 use Rattle.messages.proofs.Beginning.{state_start, begun_kept}
 use Rattle.messages.proofs.Delivering.{deliverable, right-small}
 
@@ -100,7 +100,7 @@ module _ {h : SheetHeld} {js tr fs ss gs ps line xs os inbox qs : List ℕ} {t :
         now = inv.each held.net
 
         pub running_link : LinkAt (get_or js k 0) fs xs os inbox qs
-        running_link = link_at now.kept inside
+        running_link = link_at_lem now.kept inside
 
         pub running_deliverable : Deliverable h.head.step.0 (get_or js k 0) tr fs ss gs ps line xs os inbox qs t
         running_deliverable = deliverable held.net now.kept inside (right-small now.kept now.right)

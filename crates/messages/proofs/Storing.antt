@@ -153,8 +153,8 @@ module _ {h : SheetHeld} {tr fs ts ls xs ss os inbox qs : List ℕ} {t : Tally} 
       ap bit (and_true (ltb 0 (get_or xs place 0)) e),
     )
 
-    pub link_at : LinkAt j fs xs os inbox qs
-    link_at = record {
+    pub link_at_lem : LinkAt j fs xs os inbox qs
+    link_at_lem = record {
       from-size = kept.graph.from-size;
       fraction-size = kept.graph.fraction-size;
       opposite-size = kept.graph.opposite-size;
@@ -217,7 +217,7 @@ module _ {h : SheetHeld} {tr fs ts ls xs ss os inbox qs : List ℕ} {t : Tally} 
       store_first e =
           let known : is_silent inbox place ≡ true = silent_is ∙ ap not e in
           let q : ℕ = fewer (get_or qs far 0) (get_or xs place 0) in
-          let there : get_or (set qs far q) far 0 ≡ q = get_or-set_same qs far q 0 (omega (arith, link_at.far, kept.quiet-size)) in
+          let there : get_or (set qs far q) far 0 ≡ q = get_or-set_same qs far q 0 (omega (arith, link_at_lem.far, kept.quiet-size)) in
           let more = one_more t q in
           amended (set qs far q) (step_of t (change_of q)) (length-set qs far q ∙ kept.quiet-size) (λ i ne. get_or-set_other qs far i q 0 ne)
           (omega (arith, there, quiet-low known, ap bit known, ap bit (and_true (ltb 0 (get_or xs place 0)) known)))
@@ -234,9 +234,9 @@ module _ {p b x w : ℕ} {inbox qs : List ℕ} where
   put_first e n d = record { word = refl; again = λ f. clash f e; first = λ _. (ap (set qs b) n, d ∙ ap change_of n) }
 
 -- ---- and so store
-pub stored_at : {j w : ℕ} {fs xs os inbox qs inbox' qs' : List ℕ} {c : Change} → 0 < w
+pub stored_at_lem : {j w : ℕ} {fs xs os inbox qs inbox' qs' : List ℕ} {c : Change} → 0 < w
     → StoredAt (get_or os j 0) (get_or fs (get_or os j 0) 0) (get_or xs (get_or os j 0) 0) w inbox qs inbox' qs' c → Stored j w fs xs os inbox qs inbox' qs' c
-stored_at {j} {w} {fs} {xs} {os} {inbox} {qs} {inbox'} {qs'} {c} word put = go (heard (told_of (get_or inbox (get_or os j 0) 0))) refl
+stored_at_lem {j} {w} {fs} {xs} {os} {inbox} {qs} {inbox'} {qs'} {c} word put = go (heard (told_of (get_or inbox (get_or os j 0) 0))) refl
   where
     go : (b : Bool) → heard (told_of (get_or inbox (get_or os j 0) 0)) ≡ b → Stored j w fs xs os inbox qs inbox' qs' c
     go true e = let r = put.again e in rw (put.word, r.0, r.1) (record { said = λ kept inside. state_now kept inside word; keeps = λ kept inside. store_again kept inside word e })

@@ -80,8 +80,8 @@ module _ {h : HeadHeld} {count : ℕ} {ss gs ps fs ts xs old was : List ℕ} (g 
     }
 
     -- a flowing link stands among the places
-    place_of : (j : ℕ) → a ≤ j → j < e → 0 < get_or xs j 0 → In (j - a) places
-    place_of j b c x =
+    place_of_lem : (j : ℕ) → a ≤ j → j < e → 0 < get_or xs j 0 → In (j - a) places
+    place_of_lem j b c x =
         let back : a + (j - a) ≡ j = omega arith in
         let here : get_or (part xs a e) (j - a) 0 ≡ get_or xs j 0 = part-get_or xs a e (j - a) (omega arith) ∙ ap (λ (k : ℕ). get_or xs k 0) back in
         subst (λ (k : List ℕ). In (j - a) k) (sym (g.flow.places i l))
@@ -89,7 +89,7 @@ module _ {h : HeadHeld} {count : ℕ} {ss gs ps fs ts xs old was : List ℕ} (g 
 
     falls_at : (turn : List ℕ) → FallsAt ss gs ps ts turn i → (j : ℕ) → a ≤ j → j < e → 0 < get_or xs j 0 → get_or turn (get_or ts j 0) 0 < get_or turn i 0
     falls_at turn f j b c x =
-        let at = in_at (place_of j b c x) in
+        let at = in_at (place_of_lem j b c x) in
         let back : a + (j - a) ≡ j = omega arith in
         let here : get_or (part ts a e) (get_or places at.0 0) 0 ≡ get_or ts j 0 =
         ap (λ (p : ℕ). get_or (part ts a e) p 0) at.2 ∙ part-get_or ts a e (j - a) (omega arith) ∙ ap (λ (k : ℕ). get_or ts k 0) back in

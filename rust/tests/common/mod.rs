@@ -1,4 +1,4 @@
-//! Runs the programs that `rt check` builds.
+//! Runs the programs that `tools/build` builds.
 
 use std::io::Write;
 use std::path::{Path, PathBuf};
@@ -10,7 +10,7 @@ pub fn root() -> PathBuf {
 
 pub fn program(name: &str) -> Command {
     let path = root().join("target").join("bin").join(name);
-    assert!(path.is_file(), "{} is missing: run rt check {name} first", path.display());
+    assert!(path.is_file(), "{} is missing: run tools/build first", path.display());
     Command::new(path)
 }
 
