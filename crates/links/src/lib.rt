@@ -1,6 +1,5 @@
 // The links of a sheet as one list of records, and each link's opposite.
-// A list is lent as `&[Link]`. What is lent one only copies a record whole and passes it on, so that tools/forms can make its derivation;
-// what looks into a record takes it by value.
+// A list is lent as `&[Link]`. What is lent one copies a record whole and passes it on; what looks into a record takes it by value.
 #![tactic(auto)]
 
 ghost use Rattle.std.specs.Prelude.{◌≡◌, true, ◌&&◌, ℕ, ◌≤◌, ◌<◌, length, get_or, ltb, eqb};

@@ -113,7 +113,7 @@ pub fn stepped(t: Tally, change: Change) -> Tally
     }
 }
 
-// Amends the tally where it stands. This function, and those that lend it the tally, only pass it on: tools/forms makes their derivations.
+// Amends the tally where it stands. This function, and those that lend it the tally, only pass it on.
 fn amend(t: &mut Tally, change: Change)
     requires { Spare t.old }
     ensures { t.new ≡ step_of t.old change }
@@ -242,7 +242,7 @@ pub fn deliver(
     amend(t, change);
 }
 
-// One delivery, for a caller that holds the tally by value and the links in slices. Such a caller lends no struct, so Rattle derives it.
+// One delivery, for a caller that holds the tally by value and the links in slices.
 pub fn deliver_once(
     h: SheetHeld,
     j: usize,
