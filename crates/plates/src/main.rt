@@ -57,10 +57,13 @@ fn put_plate<W: Write>(out: &mut W, p: Plate) -> io::Result<()> {
     out.write_all(&[9])
 }
 
-fn save<R: Files + Print>(rt: &R, path: &str, p: Plate) -> io::Result<()> {
+// A file that can't be made is named, and the next plate follows.
+fn save<R: Files + Print + Eprint>(rt: &R, path: &str, p: Plate) -> io::Result<()> {
     put_plate(&mut io::writer(rt), p)?;
-    let mut file = fs::create(rt, path)?;
-    put_plate(&mut file, p)
+    match fs::create(rt, path) {
+        Ok(mut file) => put_plate(&mut file, p),
+        Err(error) => eprintln!(rt; "{path}: {error}"),
+    }
 }
 
 // Plate A, but for the traffic of node 1.
