@@ -1,26 +1,35 @@
 // What the programs share: standard input as bytes, bytes of a sheet or a frame as numbers to print, and the line of a refusal.
 #![tactic(auto)]
 
-ghost use Rattle.std.specs.Prelude.{◌≤◌, length, IfOk};
+ghost use Rattle.std.specs.Prelude.{◌≤◌, ◌<◌, length, take, IfOk};
+ghost use Rattle.std.specs.Io.KnownBytes.{Consumes, IsAtEnd};
 
 use answers::Refusal;
 use std::io;
 use std::io::Read;
 
-// Fills the buffer from standard input, as far as that goes; answers how many bytes there were.
-pub fn read_full<R: Input>(rt: &R, buf: &mut [u8]) -> io::Result<usize>
-    ensures { IfOk result (λ n. n ≤ length buf.new) }
+// Fills the buffer, as far as what is read goes; answers how many bytes there were.
+pub fn fill<R: Read>(reader: &mut R, buf: &mut [u8]) -> io::Result<usize>
+    ensures bound { IfOk result (λ n. n ≤ length buf.new) }
+    ensures bytes { IfOk result (λ n. Consumes (R.remaining reader.old) (R.remaining reader.new) (take n buf.new)) }
+    ensures short_at_the_end { IfOk result (λ n. n < length buf.new → IsAtEnd (R.remaining reader.new)) }
 {
-    let mut reader = rt.reader();
     let mut n: usize = 0;
     while n < buf.len() {
         let more = reader.read(&mut buf[n..])?;
         if more == 0 {
-            break;
+            return Ok(n);
         }
         n += more;
     }
     Ok(n)
+}
+
+// Fills the buffer from standard input.
+pub fn read_full<R: Input>(rt: &R, buf: &mut [u8]) -> io::Result<usize>
+    ensures { IfOk result (λ n. n ≤ length buf.new) }
+{
+    fill(&mut rt.reader(), buf)
 }
 
 // Answering 0 past the end spares every reader a condition on the bytes.
