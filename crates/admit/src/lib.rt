@@ -1,103 +1,66 @@
 // Opens a sheet: Check's refusals 1 to 8 in their order, and on acceptance all that the later layers need, worked out once.
 #![tactic(auto)]
 
-ghost use Rattle.std.specs.Prelude.{◌≡◌, List, ℕ, ◌≤◌, ◌<◌, length};
-ghost use Rattle.sheet.specs.Held.{Lent};
-ghost use Rattle.admit.specs.Opened.{JudgeAsked, Room, Judged, OpenedGiven};
+ghost use Rattle.std.specs.Prelude.{◌≡◌, length};
+ghost use Rattle.admit.specs.Opened.{Sized, refusing, JudgeAsked, Judged, OpenedGiven};
 
-use sheet::{Found, SheetHeld, SheetRead};
+use answers::{Fault, Refusal};
+use node::NetHeld;
+use sheet::SheetHeld;
 
-#[derive(Clone, Copy)]
-pub enum Opened {
-    Refused(u8, usize),
-    Accepted(SheetHeld),
+// A fault at a place, if there is one, is a refusal there.
+fn refuse_at(fault: Fault, place: Option<usize>) -> Result<(), Refusal>
+    ensures { result ≡ refusing fault place }
+{
+    match place {
+        Some(place) => Err(Refusal { fault, place }),
+        None => Ok(()),
+    }
 }
 
 // The sheet as a whole: 6, then 7, then 8.
-fn judge_whole(
-    h: SheetHeld,
-    from: &[u8],
-    to: &[u8],
-    load: &[u8],
-    fraction: &[u32],
-    starts: &mut [u16],
-    flow_starts: &mut [u16],
-    flow: &mut [u16],
-    opposite: &mut [u16],
-    order: &mut [u8],
-    turn: &mut [u8],
-) -> Opened
-    requires { JudgeAsked h from.now to.now load.now fraction.now × Room starts.old flow_starts.old flow.old opposite.old order.old turn.old }
-    ensures { Judged result h from.now to.now fraction.now starts.new flow_starts.new flow.new opposite.new order.new turn.new }
+fn judge_whole(h: SheetHeld, net: &mut NetHeld) -> Result<(), Refusal>
+    requires { JudgeAsked h net.old.columns }
+    ensures kept { net.new.columns ≡ net.old.columns }
+    ensures judged { Judged result h net.new }
 {
-    let head = h.head;
-    let count = h.links;
-    let wrong = network::survey(head, count, from, fraction, starts, flow_starts, flow);
-    let alone = links::pair_links(
-        head.nodes, count, starts, from, to, load, fraction, opposite,
-    );
-    match alone {
-        Found::At(j) => {
-            return Opened::Refused(6, j);
-        }
-        Found::Nowhere => {}
-    }
-    match wrong {
-        Found::At(i) => {
-            return Opened::Refused(7, i);
-        }
-        Found::Nowhere => {}
-    }
-    let looped = order::find_order(
-        head,
-        count,
-        starts,
-        flow_starts,
-        flow,
-        from,
-        to,
-        fraction,
-        order,
-        turn,
-    );
-    match looped {
-        Found::At(i) => Opened::Refused(8, i),
-        Found::Nowhere => Opened::Accepted(h),
-    }
+    let wrong = network::survey(h, &net.columns, &mut net.rows);
+    let alone = links::pair_links(h, &net.rows.starts, &net.columns, &mut net.opposite);
+    refuse_at(Fault::NoOpposite, alone)?;
+    refuse_at(Fault::WrongSum, wrong)?;
+    let looped = order::find_order(h, &net.columns, &net.rows, &mut net.order);
+    refuse_at(Fault::OnLoop, looped)
 }
 
-pub fn open(
-    b: &[u8],
-    traffic: &mut [u32],
-    from: &mut [u8],
-    to: &mut [u8],
-    load: &mut [u8],
-    fraction: &mut [u32],
-    starts: &mut [u16],
-    flow_starts: &mut [u16],
-    flow: &mut [u16],
-    opposite: &mut [u16],
-    order: &mut [u8],
-    turn: &mut [u8],
-) -> Opened
-    requires { Lent traffic.old from.old to.old load.old fraction.old × Room starts.old flow_starts.old flow.old opposite.old order.old turn.old }
-    ensures { OpenedGiven result b.now traffic.new from.new to.new load.new fraction.new starts.new flow_starts.new flow.new opposite.new order.new turn.new }
+// Says of an array what its type says, where a call has hidden it. Nothing is left of it when it is built.
+fn size_up<T, const N: usize>(array: &[T; N])
+    ensures { length array.now ≡ N }
 {
-    let sheet = sheet::read_alone(b, traffic, from, to, load, fraction);
-    match sheet {
-        SheetRead::Wrong(n, p) => Opened::Refused(n, p),
-        SheetRead::Read(h, _) => judge_whole(
-            h,
-            from,
-            to,
-            load,
-            fraction,
-            starts,
-            flow_starts,
-            flow,
-            opposite,
-            order,
-            turn,
-        ),
-    }
+    let _long = array.len();
+}
+
+// The same of the whole storage.
+fn size_up_all(net: &NetHeld)
+    ensures { Sized net.now }
+{
+    size_up(&net.columns.traffic);
+    size_up(&net.columns.from);
+    size_up(&net.columns.to);
+    size_up(&net.columns.load);
+    size_up(&net.columns.fraction);
+    size_up(&net.rows.starts);
+    size_up(&net.rows.flow_starts);
+    size_up(&net.rows.flow);
+    size_up(&net.opposite);
+    size_up(&net.order.order);
+    size_up(&net.order.turn);
+}
+
+pub fn open(b: &[u8], net: &mut NetHeld) -> Result<SheetHeld, Refusal>
+    ensures { OpenedGiven result b.now net.new }
+{
+    let (h, _) = sheet::read_alone(b, &mut net.columns)?;
+    judge_whole(h, net)?;
+    size_up_all(net);
+    Ok(h)
 }

@@ -1,116 +1,66 @@
-// What a call answers: a case for each number of document 01's table.
+// What a call answers: a number, or a refusal of the paper's table with its place.
 #![tactic(auto)]
 
 ghost use Rattle.std.specs.Prelude.{◌≡◌, ◌≤◌, ◌<◌};
-ghost use Rattle.answers.specs.Answers.{number_of, place_of, both, told, packed};
+ghost use Rattle.answers.specs.Answers.{fault_number, number_of, place_of, told, packed};
 
-// Each with its place.
-#[derive(Clone, Copy)]
-pub enum Refusal {
-    CutShort(usize),
-    WrongKind(usize),
-    OutOfRange(usize),
-    NotRising(usize),
-    BytesAfter(usize),
-    NoOpposite(usize),
-    WrongSum(usize),
-    OnLoop(usize),
-    TooShort(usize),
-    NotWaiting(usize),
-    ListEnds(usize),
-    NoSuchLink(usize),
+use std::fmt;
+
+// The faults of the table. A fault's number in the table is its number here.
+#[derive(Clone, Copy, Debug, PartialEq, Eq, Hash)]
+pub enum Fault {
+    CutShort = 1,
+    WrongKind = 2,
+    OutOfRange = 3,
+    NotRising = 4,
+    BytesAfter = 5,
+    NoOpposite = 6,
+    WrongSum = 7,
+    OnLoop = 8,
+    TooShort = 9,
+    NotWaiting = 10,
+    ListEnds = 11,
+    NoSuchLink = 12,
 }
 
-#[derive(Clone, Copy)]
-pub enum Answer {
-    Done(usize),
-    Refused(Refusal),
+impl Fault {
+    // Its number in the table.
+    pub fn number(self) -> u64
+        ensures number { result ≡ fault_number self }
+        ensures small { result ≤ 12 }
+    {
+        self as u64
+    }
 }
 
-// The refusal with number n at place p.
-fn refusal_of(n: u8, p: usize) -> Refusal
-    requires { (1 ≤ n) × (n ≤ 12) }
-    ensures { (number_of result ≡ n) × (place_of result ≡ p) }
-{
-    if n <= 1 {
-        return Refusal::CutShort(p);
-    }
-    if n <= 2 {
-        return Refusal::WrongKind(p);
-    }
-    if n <= 3 {
-        return Refusal::OutOfRange(p);
-    }
-    if n <= 4 {
-        return Refusal::NotRising(p);
-    }
-    if n <= 5 {
-        return Refusal::BytesAfter(p);
-    }
-    if n <= 6 {
-        return Refusal::NoOpposite(p);
-    }
-    if n <= 7 {
-        return Refusal::WrongSum(p);
-    }
-    if n <= 8 {
-        return Refusal::OnLoop(p);
-    }
-    if n <= 9 {
-        return Refusal::TooShort(p);
-    }
-    if n <= 10 {
-        return Refusal::NotWaiting(p);
-    }
-    if n <= 11 {
-        return Refusal::ListEnds(p);
-    }
-    Refusal::NoSuchLink(p)
+// What is wrong, and where.
+#[derive(Clone, Copy, Debug, PartialEq, Eq, Hash)]
+pub struct Refusal {
+    pub fault: Fault,
+    pub place: usize,
 }
 
-pub fn refused(n: u8, p: usize) -> Answer
-    requires { (1 ≤ n) × (n ≤ 12) }
-    ensures { told result ≡ both n p }
-{
-    Answer::Refused(refusal_of(n, p))
+pub type Answer = Result<usize, Refusal>;
+
+impl fmt::Display for Refusal {
+    fn fmt<W: fmt::Write>(&self, f: &mut fmt::Formatter<W>) -> fmt::Result {
+        write!(f, "refused {} at {}", self.fault.number(), self.place)
+    }
 }
+
+impl std::error::Error for Refusal {}
 
 pub fn number_of(r: Refusal) -> u64
-    ensures { (result ≡ number_of r) × (result ≤ 12) }
+    ensures number { result ≡ number_of r }
+    ensures small { result ≤ 12 }
 {
-    match r {
-        Refusal::CutShort(_) => 1,
-        Refusal::WrongKind(_) => 2,
-        Refusal::OutOfRange(_) => 3,
-        Refusal::NotRising(_) => 4,
-        Refusal::BytesAfter(_) => 5,
-        Refusal::NoOpposite(_) => 6,
-        Refusal::WrongSum(_) => 7,
-        Refusal::OnLoop(_) => 8,
-        Refusal::TooShort(_) => 9,
-        Refusal::NotWaiting(_) => 10,
-        Refusal::ListEnds(_) => 11,
-        Refusal::NoSuchLink(_) => 12,
-    }
+    r.fault.number()
 }
 
 pub fn place_of(r: Refusal) -> u64
     ensures { result ≡ place_of r }
 {
-    match r {
-        Refusal::CutShort(p) => p as u64,
-        Refusal::WrongKind(p) => p as u64,
-        Refusal::OutOfRange(p) => p as u64,
-        Refusal::NotRising(p) => p as u64,
-        Refusal::BytesAfter(p) => p as u64,
-        Refusal::NoOpposite(p) => p as u64,
-        Refusal::WrongSum(p) => p as u64,
-        Refusal::OnLoop(p) => p as u64,
-        Refusal::TooShort(p) => p as u64,
-        Refusal::NotWaiting(p) => p as u64,
-        Refusal::ListEnds(p) => p as u64,
-        Refusal::NoSuchLink(p) => p as u64,
-    }
+    r.place as u64
 }
 
 // As one number, for C: number × 2^32 + value. The value fits its half.
@@ -119,7 +69,7 @@ pub fn packed_of(a: Answer) -> u64
     ensures { result ≡ packed (told a) }
 {
     match a {
-        Answer::Done(n) => n as u64,
-        Answer::Refused(r) => number_of(r) * 4294967296 + place_of(r),
+        Ok(n) => n as u64,
+        Err(r) => number_of(r) * 4294967296 + place_of(r),
     }
 }

@@ -1,137 +1,83 @@
 -- From what a sheet is opened as to the reply that the rules give.
-use Prim.Native.Nat.{ℕ, ◌*◌, ◌≤◌, ◌<◌}
-use native.Mathlib.Omega.{arith}
+use Rattle.std.specs.Prelude.{ℕ, ◌≤◌, List, [], ◌++◌, Bool, true, false, length, drop, ltb, Result, Ok, Err, IfOk}
 use mathlib.Core.Path.{◌≡◌, refl, sym, ap, subst, ◌∙◌}
-use mathlib.Core.List.{List, [], ◌++◌}
-use lib.ListN.{length, drop}
-use borrow.Author.Tests.{lt-ltb, le-ltb}
+use borrow.Author.Tests.{ltb-false}
+use Rattle.answers.specs.Answers.{number_of, place_of, numbers, Answered}
+use Rattle.answers.specs.declared.Fault.TheVariants.{TooShort}
+use Rattle.answers.specs.declared.Refusal.{Refusal}
 use Rattle.rules.specs.Sheet.{Sheet}
-use Rattle.rules.specs.Bytes.{AreBytes, bytes}
-use Rattle.rules.specs.Judge.{Verdict, refused, accepted}
+use Rattle.rules.specs.Bytes.{bytes}
+use Rattle.rules.specs.Judge.{Verdict}
 use Rattle.rules.specs.Check.{check}
 use Rattle.rules.specs.Round.{next}
 use Rattle.rules.specs.Messages.{house}
-use Rattle.rules.specs.Calls.{Reply, refusal, answer, over, on_sheet, room, writes, check_reply, next_reply, play_reply, frame_reply, house_reply}
-use Rattle.rules.proofs.Refusals.{check-number}
-use Rattle.rules.proofs.Sound.{Sound}
+use Rattle.rules.specs.Calls.{Reply, refusal, answer, on_sheet, room, writes, check_reply, house_reply}
 use Rattle.rules.proofs.Next.{next-length}
-use Rattle.rules.proofs.Demands.{next_call, house_call, house-order}
+use Rattle.rules.proofs.Demands.{house-order}
 use Rattle.sheet.specs.declared.SheetHeld.{SheetHeld}
-use Rattle.sheet.specs.Held.{sheet_said}
+use Rattle.sheet.specs.Held.{sheet_in}
 use Rattle.network.proofs.Rows.{held-length}
-use Rattle.play.specs.declared.Said.{Said}
-use Rattle.play.specs.Replies.{played, framed, said_of, Replied}
-use Rattle.admit.specs.declared.Opened.{Opened}
-use Rattle.admit.specs.Opened.{opened_said, OpenedGiven, Ready, ready_if}
-use Rattle.answers.specs.Answers.{both, told, numbers, Answered}
-use Rattle.answers.specs.declared.Answer.{Answer}
+use Rattle.node.specs.declared.NetHeld.{NetHeld}
+use Rattle.admit.specs.Opened.{opened_said, OpenedGiven, Ready}
+use Rattle.calls.specs.Written.{roomy, NextWritten}
 
-module _ (b : List ℕ) {tr fs ts ls xs ss gs ps os ord turn : List ℕ} {r : Opened} (given : OpenedGiven r b tr fs ts ls xs ss gs ps os ord turn) where
-  -- refused: the number is one of Check's, and any call gives it
-  module _ {n p : ℕ} (e : r ≡ Opened.Refused n p) where
-    pub is_refused : check b ≡ refused n p
-    is_refused = sym given.said ∙ ap (λ (x : Opened). opened_said x tr fs ts ls xs) e
+-- 9, and what is known where it is not given
+module _ (have need : ℕ) {a : Result Unit Refusal} (asked : a ≡ roomy have need) (r : Reply) where
+  pub no_room : {e : Refusal} → a ≡ Err e → room have need r ≡ refusal (number_of e) (place_of e)
+  no_room {e} q = go (ltb have need) refl
+    where
+      go : (t : Bool) → ltb have need ≡ t → room have need r ≡ refusal (number_of e) (place_of e)
+      go true z =
+          let is : a ≡ Err (record { fault = TooShort; place = need }) = asked ∙ rw z in
+          let same : e ≡ record { fault = TooShort; place = need } = cc in
+          rw (z, same)
+      go false z = let is : a ≡ Ok tt = asked ∙ rw z in cc
 
-    pub refused-number : (1 ≤ n) × (n ≤ 12)
-    refused-number = let z = check-number b n p is_refused in (z.0, omega (arith, z.1))
+  pub some-room : {u : Unit} → a ≡ Ok u → (need ≤ have) × (room have need r ≡ r)
+  some-room {u} q = go (ltb have need) refl
+    where
+      go : (t : Bool) → ltb have need ≡ t → (need ≤ have) × (room have need r ≡ r)
+      go true z = let is : a ≡ Err (record { fault = TooShort; place = need }) = asked ∙ rw z in cc
+      go false z = (ltb-false have need z, rw z)
 
-    pub refused_reply : (go : Sheet → Reply) → on_sheet (check b) go ≡ refusal n p
-    refused_reply go = ap (λ (v : Verdict). on_sheet v go) is_refused
+module _ {b : List ℕ} {net : NetHeld} {r : Result SheetHeld Refusal} (given : OpenedGiven r b net) where
+  -- refused: any call gives it
+  pub refused_reply : {e : Refusal} → r ≡ Err e → (go : Sheet → Reply) → on_sheet (check b) go ≡ refusal (number_of e) (place_of e)
+  refused_reply q go = ap (λ (v : Verdict). on_sheet v go) (sym given.said ∙ ap (λ (x : Result SheetHeld Refusal). opened_said x net.columns) q)
 
-  module _ {h : SheetHeld} (e : r ≡ Opened.Accepted h) where
-    pub is_accepted : check b ≡ accepted (sheet_said h tr fs ts ls xs)
-    is_accepted = sym given.said ∙ ap (λ (x : Opened). opened_said x tr fs ts ls xs) e
+  module _ {h : SheetHeld} (e : r ≡ Ok h) where
+    abbrev s : Sheet
+    s = sheet_in h net.columns
 
-    pub is_ready : Ready h b tr fs ts ls xs ss gs ps os ord turn
-    is_ready = subst (λ (x : Opened). ready_if x b tr fs ts ls xs ss gs ps os ord turn) e given.ready
+    pub is_ready : Ready h b net
+    is_ready = subst (λ (x : Result SheetHeld Refusal). IfOk x (λ k. Ready k b net)) e given.ready
 
-    pub accepted_reply : (go : Sheet → Reply) → on_sheet (check b) go ≡ go (sheet_said h tr fs ts ls xs)
-    accepted_reply go = ap (λ (v : Verdict). on_sheet v go) is_accepted
+    pub accepted_reply : (go : Sheet → Reply) → on_sheet (check b) go ≡ go s
+    accepted_reply go = ap (λ (v : Verdict). on_sheet v go) (sym given.said ∙ ap (λ (x : Result SheetHeld Refusal). opened_said x net.columns) e)
+
+    many : length s.links ≡ h.links
+    many = held-length h.links net.columns.from net.columns.to net.columns.load net.columns.fraction
 
     pub links_reply : check_reply b ≡ answer h.links []
-    links_reply = accepted_reply (λ s. answer (length s.links) []) ∙ ap (λ (n : ℕ). answer n []) (held-length h.links fs ts ls xs)
+    links_reply = accepted_reply (λ s. answer (length s.links) []) ∙ ap (λ (n : ℕ). answer n []) many
 
--- 9
-pub no_room : (have need : ℕ) (r : Reply) → have < need → room have need r ≡ refusal 9 need
-no_room have need r h = rw (lt-ltb have need h)
+    pub house_accepted : (have : ℕ) → house_reply b have ≡ room have h.links (writes (house s))
+    house_accepted have = accepted_reply (λ s. room have (length s.links) (writes (house s))) ∙ ap (λ (n : ℕ). room have n (writes (house s))) many
 
-pub some-room : (have need : ℕ) (r : Reply) → need ≤ have → room have need r ≡ r
-some-room have need r h = rw (le-ltb have need h)
+    -- ---- what is written
+    pub next_answered : {old out : List ℕ} → NextWritten h b net old out → Answered (Ok (length b)) (writes (bytes (next s))) old out
+    next_answered {old} q =
+        let z : length (bytes (next s)) ≡ length b = next-length s ∙ ap length is_ready.stand in
+        record { says = ap (λ (n : ℕ). numbers (answer n [])) (sym z); writes = q ∙ ap (λ (k : ℕ). bytes (next s) ++ drop k old) (sym z) }
+
+    pub house_answered : {old out : List ℕ} → out ≡ house s ++ drop h.links old → Answered (Ok h.links) (writes (house s)) old out
+    house_answered {old} q =
+        let z : length (house s) ≡ h.links = (house-order s is_ready.held.graph.sound).1 ∙ many in
+        record { says = ap (λ (n : ℕ). numbers (answer n [])) (sym z); writes = q ∙ ap (λ (k : ℕ). house s ++ drop k old) (sym z) }
 
 -- ---- a call's whole promise
-pub answered_refused : {r : Answer} {n p : ℕ} {reply : Reply} (old : List ℕ) → told r ≡ both n p → reply ≡ refusal n p → Answered r reply old old
-answered_refused old e q = record { says = e ∙ sym (ap numbers q); writes = sym (ap (λ (x : Reply). over x old) q) }
+pub answered_refused : {a : Result ℕ Refusal} {e : Refusal} {reply : Reply} (old : List ℕ) → a ≡ Err e → reply ≡ refusal (number_of e) (place_of e) → Answered a reply old old
+answered_refused old p q = rw (p, q) (record { says = refl; writes = refl })
 
-pub answered_done : {n : ℕ} {reply : Reply} {new : List ℕ} (old out : List ℕ) → reply ≡ answer n new → out ≡ new ++ drop (length new) old → Answered (Answer.Done n) reply old out
-answered_done old out q e = record { says = sym (ap numbers q); writes = e ∙ sym (ap (λ (x : Reply). over x old) q) }
-
-module _ (b : List ℕ) {tr fs ts ls xs ss gs ps os ord turn : List ℕ} {r : Opened} (given : OpenedGiven r b tr fs ts ls xs ss gs ps os ord turn) where
-  module _ (have : ℕ) {n p : ℕ} (e : r ≡ Opened.Refused n p) where
-    pub next-refused : next_reply b have ≡ refusal n p
-    next-refused = refused_reply b given e (λ s. room have (length b) (writes (bytes (next s))))
-
-    pub house-refused : house_reply b have ≡ refusal n p
-    house-refused = refused_reply b given e (λ s. room have (length s.links) (writes (house s)))
-
-  module _ (have : ℕ) {h : SheetHeld} (e : r ≡ Opened.Accepted h) where
-    abbrev s : Sheet
-    s = sheet_said h tr fs ts ls xs
-
-    pub next_short : have < length b → next_reply b have ≡ refusal 9 (length b)
-    next_short l = accepted_reply b given e (λ s. room have (length b) (writes (bytes (next s)))) ∙ no_room have (length b) (writes (bytes (next s))) l
-
-    pub house_short : have < h.links → house_reply b have ≡ refusal 9 h.links
-    house_short l =
-        let z : length s.links ≡ h.links = held-length h.links fs ts ls xs in
-        accepted_reply b given e (λ s. room have (length s.links) (writes (house s)))
-        ∙ no_room have (length s.links) (writes (house s)) (omega arith) ∙ ap (refusal 9) z
-
-    pub next_answered : AreBytes b → (old out : List ℕ) → length b ≤ have → out ≡ bytes (next s) ++ drop (length b) old
-        → Answered (Answer.Done (length b)) (next_reply b have) old out
-    next_answered fit old out l q =
-        let ok : Sound s = (is_ready b given e).graph.sound in
-        let z : length (bytes (next s)) ≡ length b = next-length s ∙ ap length (is_ready b given e).stand in
-        answered_done old out (next_call s ok b have fit (is_accepted b given e) l) (q ∙ ap (λ (k : ℕ). bytes (next s) ++ drop k old) (sym z))
-
-    pub house_answered : (old out : List ℕ) → h.links ≤ have → out ≡ house s ++ drop h.links old → Answered (Answer.Done h.links) (house_reply b have) old out
-    house_answered old out l q =
-        let ok : Sound s = (is_ready b given e).graph.sound in
-        let z : length s.links ≡ h.links = held-length h.links fs ts ls xs in
-        answered_done old out (house_call s ok b have (is_accepted b given e) (omega arith) ∙ ap (λ (k : ℕ). answer k (house s)) z)
-        (q ∙ ap (λ (k : ℕ). house s ++ drop k old) (sym ((house-order s ok).1 ∙ z)))
-
--- ---- Play and Frame: what the inner call says
-said-numbers : (reply : Reply) → both (said_of reply).number (said_of reply).value ≡ numbers reply
-said-numbers (refusal n p) = refl
-said-numbers (answer v new) = refl
-
-said-top : (reply : Reply) → ((n p : ℕ) → reply ≡ refusal n p → n ≤ 12) → (said_of reply).number ≤ 12
-said-top (refusal n p) h = h n p refl
-said-top (answer v new) h = omega arith
-
-pub said-small : {x : Said} {reply full : Reply} {old new : List ℕ} → Replied x reply old new → full ≡ reply
-    → ((n p : ℕ) → full ≡ refusal n p → (1 ≤ n) × (n ≤ 12)) → x.number ≤ 12
-said-small {x} {reply} replied e top =
-    subst (λ (y : Said). y.number ≤ 12) (sym replied.said) (said-top reply (λ n p q. (top n p (e ∙ q)).1))
-
-pub said_answered : {a : Answer} {x : Said} {reply full : Reply} {old new : List ℕ} → told a ≡ both x.number x.value → Replied x reply old new → full ≡ reply
-    → Answered a full old new
-said_answered {a} {x} {reply} {full} {old} e replied q = record {
-  says = e ∙ ap (λ (y : Said). both y.number y.value) replied.said ∙ said-numbers reply ∙ sym (ap numbers q);
-  writes = replied.written ∙ sym (ap (λ (z : Reply). over z old) q);
-}
-
-module _ (b : List ℕ) {tr fs ts ls xs ss gs ps os ord turn : List ℕ} {r : Opened} (given : OpenedGiven r b tr fs ts ls xs ss gs ps os ord turn) (js : List ℕ) (have : ℕ) where
-  module _ {n p : ℕ} (e : r ≡ Opened.Refused n p) where
-    pub play-refused : play_reply b js have ≡ refusal n p
-    play-refused = refused_reply b given e (λ s. room have (length b) (played s js))
-
-    pub frame_refused : frame_reply b js have ≡ refusal n p
-    frame_refused = refused_reply b given e (λ s. room have (6 * s.nodes) (framed s js))
-
-  module _ {h : SheetHeld} (e : r ≡ Opened.Accepted h) where
-    pub play_short : have < length b → play_reply b js have ≡ refusal 9 (length b)
-    play_short l = accepted_reply b given e (λ s. room have (length b) (played s js)) ∙ no_room have (length b) (played (sheet_said h tr fs ts ls xs) js) l
-
-    pub frame_short : have < 6 * h.head.nodes → frame_reply b js have ≡ refusal 9 (6 * h.head.nodes)
-    frame_short l = accepted_reply b given e (λ s. room have (6 * s.nodes) (framed s js)) ∙ no_room have (6 * h.head.nodes) (framed (sheet_said h tr fs ts ls xs) js) l
+pub answered_by : {a : Result ℕ Refusal} {reply full : Reply} {old new : List ℕ} → full ≡ reply → Answered a reply old new → Answered a full old new
+answered_by {a} {old = old} {new} q = subst (λ (x : Reply). Answered a x old new) (sym q)

@@ -1,81 +1,42 @@
 -- What Next needs at each step, once its sheet is accepted.
-use Prim.Native.Nat.{ℕ, zero, suc, ◌≤◌}
-use native.Mathlib.Omega.{arith}
-use mathlib.Core.Path.{◌≡◌, refl, sym, ap, ◌∙◌}
-use mathlib.Core.List.{List, ◌++◌}
-use lib.ListN.{length, get_or, take, drop, replicate, length-replicate}
-use lib.Seq.{length-take-le}
+use Rattle.std.specs.Prelude.{ℕ, List, ◌++◌, length, drop, take, replicate}
+use mathlib.Core.Path.{ap, ◌∙◌}
 use Rattle.rules.specs.Sheet.{Sheet}
 use Rattle.rules.specs.Bytes.{bytes}
 use Rattle.numbers.specs.Lines.{LinesOf}
 use Rattle.sheet.specs.declared.SheetHeld.{SheetHeld}
-use Rattle.sheet.specs.Held.{WriteAsked, FractionsWritten}
-use Rattle.node.specs.Net.{Empty}
-use Rattle.node.proofs.Held.{links-few}
-use Rattle.house.specs.House.{GraphHeld}
+use Rattle.sheet.specs.Held.{FractionsWritten}
+use Rattle.node.specs.declared.NetHeld.{NetHeld}
+use Rattle.messages.proofs.Zeros.{empty_zeros}
+use Rattle.house.specs.House.{GraphIn}
 use Rattle.round.specs.Calculated.{Ordered, Given, CalculatedFor}
-use Rattle.admit.specs.Opened.{Ready}
+use Rattle.admit.specs.Opened.{Admitted, Ready}
 use Rattle.admit.proofs.Lines.{net-ready}
-use Rattle.calls.specs.Written.{ReadyHeld, NextWritten}
+use Rattle.calls.specs.Written.{NextWritten}
 
--- a new array
-abbrev zeros : ℕ → List ℕ
-zeros n = replicate n 0
+module _ {h : SheetHeld} {net : NetHeld} (accepted : Admitted h net) where
+  pub ordered : {line : List ℕ} → LinesOf (take h.links net.columns.load) (replicate 512 0) line → Ordered h net line
+  ordered lines = record { held = net-ready accepted lines empty_zeros.size empty_zeros.silence; order = accepted.sorted }
 
-zeros_at : (n k : ℕ) → get_or (zeros n) k 0 ≡ 0
-zeros_at zero k = refl
-zeros_at (suc n) zero = refl
-zeros_at (suc n) (suc k) = zeros_at n k
+  -- its own ends, load steps and turns are such
+  pub given : {line : List ℕ} → LinesOf (take h.links net.columns.load) (replicate 512 0) line → Given h net line
+  given lines = record { from = net.columns.from; to = net.columns.to; load = net.columns.load; turn = net.order.turn; ordered = ordered lines }
 
-zeros_long : (n : ℕ) → length (zeros n) ≡ n
-zeros_long n = length-replicate {A = ℕ} n 0
-
--- the load steps of the links in use
-pub loads_in : {h : SheetHeld} {b tr ls xs ss gs ps os ord : List ℕ} → ReadyHeld h b tr ls xs ss gs ps os ord → h.links ≡ length (take h.links ls)
-loads_in {h} {b} {tr} {ls} held = sym (length-take-le h.links ls (omega (arith, links-few held.ready.graph, held.ready.load-size)))
-
--- a new inbox
-pub empty : Empty (zeros 512)
-empty = record { size = zeros_long 512; silence = zeros_at 512 }
-
-module _ {h : SheetHeld} {b tr ls xs ss gs ps os ord line : List ℕ} (lines : LinesOf (take h.links ls) (zeros 512) line) where
-  ordered : (fs ts turn : List ℕ) → Ready h b tr fs ts ls xs ss gs ps os ord turn → Ordered h tr fs ts ls xs ss gs ps os line ord turn
-  ordered fs ts turn ready = record {
-    net = net-ready ready lines (zeros_long 512) (zeros_at 512);
-    order = ready.sorted;
-    order-size = ready.room.order;
+  -- for House order
+  pub graph-held : GraphIn h net
+  graph-held = record {
+    tr = net.columns.traffic;
+    ts = net.columns.to;
+    ls = net.columns.load;
+    ps = net.rows.flow;
+    graph = accepted.graph;
+    flow = accepted.flow;
+    flow-start_size = accepted.sizes.flow-starts;
+    flow-size = accepted.sizes.flow;
   }
 
-  module _ (held : ReadyHeld h b tr ls xs ss gs ps os ord) where
-    pub to_calculate : Given h tr xs ss gs ps os line ord
-    to_calculate = record { from = held.fs; to = held.ts; load = ls; turn = held.turn; ordered = ordered held.fs held.ts held.turn held.ready }
-
-    module _ {ys : List ℕ} (done : CalculatedFor h tr xs ss gs ps os line ord ys) where
-      pub to_write : {out : List ℕ} → length b ≤ length out → WriteAsked h.head h.links b ys out
-      to_write l = record {
-        few = links-few held.ready.graph;
-        nodes = held.ready.graph.sound.few;
-        fractions = (done held.fs held.ts ls held.turn (ordered held.fs held.ts held.turn held.ready)).size;
-        room = l;
-        long = held.ready.long;
-      }
-
-      pub next-written : {old new : List ℕ} → FractionsWritten h.head h.links b ys old new → NextWritten h b tr ls xs ss gs ps os ord old new
-      next-written {old} {new} w = record {
-        said = λ fs ts turn ready.
-            w.said tr fs ts ls xs ready.stand
-            ∙ ap (λ (s : Sheet). bytes s ++ drop (length b) old) (done fs ts ls turn (ordered fs ts turn ready)).said;
-      }
-
--- an accepted sheet, for House order
-pub graph-held : {h : SheetHeld} {b tr fs ts ls xs ss gs ps os ord turn : List ℕ} → Ready h b tr fs ts ls xs ss gs ps os ord turn → GraphHeld h fs ss gs xs os
-graph-held {h} {b} {tr} {fs} {ts} {ls} {xs} {ss} {gs} {ps} ready = record {
-  tr = tr;
-  ts = ts;
-  ls = ls;
-  ps = ps;
-  graph = ready.graph;
-  flow = ready.flow;
-  flow-start_size = ready.room.flow-starts;
-  flow-size = ready.room.flow;
-}
+pub next-written : {h : SheetHeld} {b old new line ys : List ℕ} {net : NetHeld} → Ready h b net → LinesOf (take h.links net.columns.load) (replicate 512 0) line
+    → CalculatedFor h net line ys → FractionsWritten h b ys old new → NextWritten h b net old new
+next-written {h} {b} {old} {net = net} ready lines done w =
+    w.said net.columns.traffic net.columns.from net.columns.to net.columns.load net.columns.fraction ready.stand
+    ∙ ap (λ (s : Sheet). bytes s ++ drop (length b) old) (done net.columns.from net.columns.to net.columns.load net.order.turn (ordered ready.held lines))

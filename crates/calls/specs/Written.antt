@@ -1,18 +1,17 @@
--- What Next asks and writes once its sheet is accepted and there is room.
-use Rattle.std.specs.Prelude.{ℕ, ◌≡◌, List, ◌++◌, length, drop}
+-- What the calls write once their sheet is accepted and there is room.
+use Rattle.std.specs.Prelude.{ℕ, ◌≡◌, cond, List, ◌++◌, length, drop, ltb, Result, Ok, Err}
+use Rattle.answers.specs.declared.Fault.TheVariants.{TooShort}
+use Rattle.answers.specs.declared.Refusal.{Refusal}
 use Rattle.rules.specs.Bytes.{bytes}
 use Rattle.rules.specs.Round.{next}
 use Rattle.sheet.specs.declared.SheetHeld.{SheetHeld}
-use Rattle.sheet.specs.Held.{sheet_said}
-use Rattle.admit.specs.Opened.{Ready}
+use Rattle.sheet.specs.Held.{sheet_in}
+use Rattle.node.specs.declared.NetHeld.{NetHeld}
 
--- the links' ends and the nodes' turns are not among the slices: there are such
-pub record ReadyHeld (h : SheetHeld) (b tr ls xs ss gs ps os ord : List ℕ) : Type 0 where
-  pub fs : List ℕ
-  pub ts : List ℕ
-  pub turn : List ℕ
-  pub ready : Ready h b tr fs ts ls xs ss gs ps os ord turn
+-- 9, with the room that is needed, where there is less
+abbrev pub roomy : ℕ → ℕ → Result Unit Refusal
+roomy have need = cond (ltb have need) (Err (record { fault = TooShort; place = need })) (Ok tt)
 
 -- the bytes of the next sheet, and behind them what stood there
-pub record NextWritten (h : SheetHeld) (b tr ls xs ss gs ps os ord old new : List ℕ) : Type 0 where
-  pub said : (fs ts turn : List ℕ) → Ready h b tr fs ts ls xs ss gs ps os ord turn → new ≡ bytes (next (sheet_said h tr fs ts ls xs)) ++ drop (length b) old
+abbrev pub NextWritten : SheetHeld → List ℕ → NetHeld → List ℕ → List ℕ → Type 0
+NextWritten h b net old new = new ≡ bytes (next (sheet_in h net.columns)) ++ drop (length b) old

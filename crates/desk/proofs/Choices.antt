@@ -12,30 +12,26 @@ use Rattle.rules.specs.Sheet.{largest_delay}
 use Rattle.rules.specs.Desk.{Way, mark_told, cost, candidate, Best, nothing, best, better, best_of}
 use Rattle.rules.proofs.Tests.{clash}
 use Rattle.desk.specs.Work.{way_at, beyond, barrier, choice, choice_at, lower, lowest}
-use Rattle.desk.specs.declared.Choice.{Choice}
+use Rattle.desk.specs.declared.row.Choice.{Choice}
 use Rattle.desk.proofs.Places.{way_to}
 
--- ---- the loop over the whole row: the lowest of the places from i on
-pub record Chosen (ls xs ks : List ℕ) (n i : ℕ) (k : Choice) : Type 0 where
-  pub within : i ≤ n
-  pub is : k ≡ lowest (choice_at ls xs ks) (counted i (n - i))
+-- ---- the loop over the whole row, from its end: the lowest of the places from i on
+module _ (ls xs ks : List ℕ) (n : ℕ) where
+  pub lowest_none : choice beyond 0 ≡ lowest (choice_at ls xs ks) (counted n (n - n))
+  lowest_none = let z : n - n ≡ 0 = omega arith in rw z
 
-module _ {ls xs ks : List ℕ} {n : ℕ} where
-  pub chosen_none : Chosen ls xs ks n n (choice beyond 0)
-  chosen_none = let z : n - n ≡ 0 = omega arith in record { within = omega arith; is = rw z }
-
-  pub chosen_more : {i c : ℕ} {k b : Choice} {w : Way} → 0 < i → Chosen ls xs ks n i k → w ≡ way_at ls xs ks (i - 1) → c ≡ cost w + barrier w
-      → b ≡ lower (choice c (i - 1)) k → Chosen ls xs ks n (i - 1) b
-  chosen_more {i} p h q e z =
-      let rest : n - (i - 1) ≡ suc (n - i) = omega (arith, h.within) in
+  pub lowest_more : (i : ℕ) {c : ℕ} {k b : Choice} {w : Way} → 0 < i → i ≤ n → k ≡ lowest (choice_at ls xs ks) (counted i (n - i)) → w ≡ way_at ls xs ks (i - 1)
+      → c ≡ cost w + barrier w → b ≡ lower (choice c (i - 1)) k → b ≡ lowest (choice_at ls xs ks) (counted (i - 1) (n - (i - 1)))
+  lowest_more i p t h q e z =
+      let rest : n - (i - 1) ≡ suc (n - i) = omega arith in
       let next : suc (i - 1) ≡ i = omega arith in
-      record { within = omega (arith, h.within); is = rw (rest, next) (z ∙ ap₂ (λ (m : ℕ) (l : Choice). lower (choice m (i - 1)) l) (e ∙ ap (λ (v : Way). cost v + barrier v) q) h.is) }
+      rw (rest, next) (z ∙ ap₂ (λ (m : ℕ) (l : Choice). lower (choice m (i - 1)) l) (e ∙ ap (λ (v : Way). cost v + barrier v) q) h)
 
-  pub chosen_all : {i : ℕ} {k : Choice} → i ≤ 0 → Chosen ls xs ks n i k → k ≡ lowest (choice_at ls xs ks) (below n)
-  chosen_all {i} p h =
+  pub lowest_all : (i : ℕ) {k : Choice} → i ≤ 0 → k ≡ lowest (choice_at ls xs ks) (counted i (n - i)) → k ≡ lowest (choice_at ls xs ks) (below n)
+  lowest_all i p h =
       let z : i ≡ 0 = omega arith in
       let m : n - 0 ≡ n = omega arith in
-      rw (z, m) at h.is
+      rw (z, m) at h
 
 -- ---- the barrier stands before what is no candidate, and only there
 candidate_free : (w : Way) → candidate w ≡ true → barrier w ≡ 0

@@ -10,20 +10,22 @@ use mathlib.Core.List.Memᴰ.{tail as there}
 use mathlib.Core.List.{List, [], ◌∷◌, map, map-map, Memᴰ as In}
 use native.Mathlib.Decide.{ℕ_discrete, dec_lt}
 use native.Mathlib.Omega.{arith}
-use lib.ListN.{length, get_or, drop, set, length-map, length-set, get_or-eq_default}
-use lib.Seq.{drop-length, ext_get_or, get_or-set_same, get_or-set_other, set-get_or}
+use Rattle.std.proofs.Common.{add-one}
+use Rattle.std.proofs.lemmas.List.{set_comm, take_all}
+use lib.ListN.{length, get_or, take, set, length-map, length-set, get_or-eq_default}
+use lib.Seq.{ext_get_or, get_or-set_same, get_or-set_other, set-get_or}
 use lib.Dec.{ltb, eqb}
 use borrow.Author.Tests.{ltb-true, ltb-false, ne_eqb}
 use Rattle.rules.specs.Lists.{keep, total, counted, below, flowing}
 use Rattle.rules.specs.Sheet.{whole}
 use Rattle.rules.specs.Desk.{Way, Desk, cost, candidate, Best, nothing, best, best_of, cut_by, cut, fraction_with, new_fraction, new_row}
 use Rattle.rules.proofs.Tests.{known, clash, eqb_self}
-use Rattle.rules.proofs.Lists.{in_keep, keep_in, map_eq, total-keep, total-map, total_but, below_length, below_in, table_at}
+use Rattle.rules.proofs.Lists.{get_or_in, in_keep, keep_in, map_eq, total-keep, total-map, total_but, below_length, below_in, table_at}
 use Rattle.rules.proofs.Desk.{cut_by_le, flowing_allowed, best_is, BestIs}
 use Rattle.desk.specs.Ways.{ways_of, desk_with, Row, Rises}
-use Rattle.desk.specs.Work.{way_at, Held, choice_at, lowest, cut_at, shorn, Shorn}
-use Rattle.desk.specs.declared.Choice.{Choice}
-use Rattle.desk.proofs.Places.{way_to, ways_are, read_back, held, flows-at, flow-small, cost-top, cut_le, back}
+use Rattle.desk.specs.Work.{way_at, choice_at, lowest, cut_at, shorn, Shorn}
+use Rattle.desk.specs.declared.row.Choice.{Choice}
+use Rattle.desk.proofs.Places.{way_to, ways_are, read_back, fraction-small, flow-small, cost-top, total_more, cut_le}
 use Rattle.desk.proofs.Choices.{ChoiceIs, choice-best, chosen-inside}
 
 -- ---- a list whose every place is below those after it
@@ -47,10 +49,15 @@ keep_rising t (p ∷ ps) r = go (t p) (keep_rising t ps r.1)
     go true s = (λ q m. r.0 q (in_keep t ps m).0, s)
     go false s = s
 
-drop_rising : (j : ℕ) (ps : List ℕ) → Rising ps → Rising (drop j ps)
-drop_rising zero ps r = r
-drop_rising (suc j) [] r = tt
-drop_rising (suc j) (p ∷ ps) r = drop_rising j ps r.1
+-- what is taken before the i-th place lies below it
+taken_below : (ps : List ℕ) (i : ℕ) {q : ℕ} → Rising ps → i < length ps → In q (take i ps) → q < get_or ps i 0
+taken_below [] i r h m = absurd (omega arith)
+taken_below (p ∷ ps) zero r h m = elim m [ ]
+taken_below (p ∷ ps) (suc i) {q} r h m =
+    elim m [ here e ↦ omega (arith, e, r.0 (get_or ps i 0) (get_or_in ps i 0 (omega arith))) | there u ↦ taken_below ps i r.1 (omega arith) u ]
+
+flowing_rising : (xs : List ℕ) → Rising (flowing xs)
+flowing_rising xs = keep_rising (λ i. ltb 0 (get_or xs i 0)) (below (length xs)) (counted_rising 0 (length xs))
 
 -- ---- a row from which f was cut at some places
 module _ (f : ℕ → ℕ) (xs : List ℕ) where
@@ -71,6 +78,16 @@ module _ (f : ℕ → ℕ) (xs : List ℕ) where
       go (no n) (here e) ih = absurd (n e)
       go (no n) (there u) ih = get_or-set_other (shorn f xs ps) p q (get_or xs p 0 - f p) 0 n ∙ ih u
 
+  -- one place more is cut
+  shorn_suc : (ps : List ℕ) (i : ℕ) → Rising ps → i < length ps
+      → shorn f xs (take (suc i) ps) ≡ set (shorn f xs (take i ps)) (get_or ps i 0) (get_or xs (get_or ps i 0) 0 - f (get_or ps i 0))
+  shorn_suc [] i r h = absurd (omega arith)
+  shorn_suc (p ∷ ps) zero r h = refl
+  shorn_suc (p ∷ ps) (suc i) r h =
+      let q = get_or ps i 0 in
+      let over : p < q = r.0 q (get_or_in ps i 0 (omega arith)) in
+      rw (shorn_suc ps i r.1 (omega arith)) (set_comm (shorn f xs (take i ps)) q p (get_or xs q 0 - f q) (get_or xs p 0 - f p) (λ e. omega (arith, e)))
+
   -- a dry place has nothing to lose, so f is cut at all places
   shorn-at : (q : ℕ) → q < length xs → get_or (shorn f xs (flowing xs)) q 0 ≡ get_or xs q 0 - f q
   shorn-at q h = go (known (ltb 0 (get_or xs q 0)))
@@ -85,63 +102,37 @@ module _ (f : ℕ → ℕ) (xs : List ℕ) where
 cut_dry : (s t c : ℕ) (ls xs ks : List ℕ) (q : ℕ) → ltb 0 (get_or xs q 0) ≡ false → cut_at s t c ls xs ks q ≡ 0
 cut_dry s t c ls xs ks q e = omega (arith, cut_by_le s t (cost (way_at ls xs ks q) - c) (get_or xs q 0), ltb-false 0 (get_or xs q 0) e)
 
-module _ (s t c : ℕ) (ls ks : List ℕ) where
-  pub record Cutting (xs ps : List ℕ) (j : ℕ) (ys : List ℕ) (g : ℕ) : Type 0 where
-    pub within : j ≤ length ps
-    pub left : ys ≡ shorn (cut_at s t c ls xs ks) xs (drop j ps)
-    pub gain : g ≡ total (cut_at s t c ls xs ks) (drop j ps)
+-- the first i flowing places are cut
+pub record Cutting (s t c : ℕ) (ls xs ks ps : List ℕ) (i : ℕ) (ys : List ℕ) (g : ℕ) : Type 0 where
+  pub left : ys ≡ shorn (cut_at s t c ls xs ks) xs (take i ps)
+  pub gain : g ≡ total (cut_at s t c ls xs ks) (take i ps)
 
-module _ {s t c : ℕ} {ls xs ks ps : List ℕ} where
-  pub cutting_none : Cutting s t c ls ks xs ps (length ps) xs 0
-  cutting_none = record {
-    within = omega arith;
-    left = ap (shorn (cut_at s t c ls xs ks) xs) (sym (drop-length ps));
-    gain = ap (total (cut_at s t c ls xs ks)) (sym (drop-length ps));
-  }
+module _ {s t c : ℕ} {ls xs ks ps : List ℕ} {i g : ℕ} {ys : List ℕ} (r : Row ls xs ks ps) (h : Cutting s t c ls xs ks ps i ys g) where
+  pub cutting_small : g ≤ whole
+  cutting_small = omega (arith, h.gain, flow-small r (cut_at s t c ls xs ks) 1 i (cut_le r s t c))
 
-  pub cutting_length : {j g : ℕ} {ys : List ℕ} → Cutting s t c ls ks xs ps j ys g → length ys ≡ length xs
-  cutting_length {j} h = ap length h.left ∙ length-shorn (cut_at s t c ls xs ks) xs (drop j ps)
+  pub cutting_all : length ps ≤ i → Shorn (cut_at s t c ls xs ks) xs ps ys g
+  cutting_all p =
+      let z : take i ps ≡ ps = take_all i ps p in
+      record { left = rw z at h.left; gain = rw z at h.gain; small = cutting_small }
 
-  module _ {j g : ℕ} {ys : List ℕ} (p : 0 < j) (r : Row ls xs ks ps) (h : Cutting s t c ls ks xs ps j ys g) where
+  module _ (p : i < length ps) where
     -- the next place still has its old fraction
-    fresh : get_or ys (get_or ps (j - 1) 0) 0 ≡ get_or xs (get_or ps (j - 1) 0) 0
-    fresh =
-        let up : Rising (drop (j - 1) ps) = drop_rising (j - 1) ps (rw r.flow (keep_rising (λ i. ltb 0 (get_or xs i 0)) (below (length xs)) (counted_rising 0 (length xs)))) in
-        let next : Rising (get_or ps (j - 1) 0 ∷ drop j ps) = subst Rising (back ps j p h.within) up in
-        rw h.left (shorn-other (cut_at s t c ls xs ks) xs (get_or ps (j - 1) 0) (drop j ps) (λ q m e. omega (arith, next.0 q m, e)))
+    fresh : get_or ys (get_or ps i 0) 0 ≡ get_or xs (get_or ps i 0) 0
+    fresh = rw h.left (shorn-other (cut_at s t c ls xs ks) xs (get_or ps i 0) (take i ps) (λ q m e. omega (arith, taken_below ps i (rw r.flow (flowing_rising xs)) p m, e)))
 
-    pub cutting_held : Held ls ys ks (get_or ps (j - 1) 0)
-    cutting_held =
-        let o = held r (get_or ps (j - 1) 0) (flows-at r (j - 1) (omega (arith, h.within))).0 in
-        let long : length ys ≡ length xs = cutting_length h in
-        record {
-          lines = o.lines ∙ sym long;
-          words = o.words ∙ sym long;
-          inside = omega (arith, o.inside);
-          line_small = o.line_small;
-          fraction-small = omega (arith, fresh, o.fraction-small);
-          told-small = o.told-small;
-        }
+    pub fresh-small : get_or ys (get_or ps i 0) 0 ≤ whole
+    fresh-small = omega (arith, fresh, fraction-small r (get_or ps i 0))
 
-    pub cutting_more : {v f k : ℕ} {w : Way} → w ≡ way_at ls ys ks (get_or ps (j - 1) 0) → v ≡ cut_by s t (cost w - c) w.fraction → f ≡ w.fraction - v → k ≡ v + g
-        → Cutting s t c ls ks xs ps (j - 1) (set ys (get_or ps (j - 1) 0) f) k
+    pub cutting_more : {v f k : ℕ} {w : Way} → w ≡ way_at ls ys ks (get_or ps i 0) → v ≡ cut_by s t (cost w - c) w.fraction → f ≡ w.fraction - v → k ≡ g + v
+        → Cutting s t c ls xs ks ps (i + 1) (set ys (get_or ps i 0) f) k
     cutting_more {v} {f} {k} {w} q e z u =
-        let a : w.fraction ≡ get_or xs (get_or ps (j - 1) 0) 0 = ap (λ (y : Way). y.fraction) q ∙ fresh in
-        let b : v ≡ cut_at s t c ls xs ks (get_or ps (j - 1) 0) = e ∙ ap₂ (λ (m n : ℕ). cut_by s t (m - c) n) (ap cost q) a in
+        let a : w.fraction ≡ get_or xs (get_or ps i 0) 0 = ap (λ (y : Way). y.fraction) q ∙ fresh in
+        let b : v ≡ cut_at s t c ls xs ks (get_or ps i 0) = e ∙ ap₂ (λ (m n : ℕ). cut_by s t (m - c) n) (ap cost q) a in
         record {
-          within = omega (arith, h.within);
-          left = rw (back ps j p h.within) (ap₂ (λ (l : List ℕ) (n : ℕ). set l (get_or ps (j - 1) 0) n) h.left (z ∙ ap₂ ◌-◌ a b));
-          gain = rw (back ps j p h.within) (u ∙ ap₂ ◌+◌ b h.gain);
+          left = rw (add-one, shorn_suc (cut_at s t c ls xs ks) xs ps i (rw r.flow (flowing_rising xs)) p) (ap₂ (λ (l : List ℕ) (n : ℕ). set l (get_or ps i 0) n) h.left (z ∙ ap₂ ◌-◌ a b));
+          gain = u ∙ ap₂ ◌+◌ h.gain b ∙ sym (total_more (cut_at s t c ls xs ks) ps i p);
         }
-
-  module _ {j g : ℕ} {ys : List ℕ} (r : Row ls xs ks ps) (h : Cutting s t c ls ks xs ps j ys g) where
-    pub cutting_small : g ≤ whole
-    cutting_small = omega (arith, h.gain, flow-small r (cut_at s t c ls xs ks) 1 j (cut_le r s t c))
-
-    pub cutting_all : j ≤ 0 → Shorn (cut_at s t c ls xs ks) xs ps ys g
-    cutting_all p =
-        let z : j ≡ 0 = omega arith in
-        record { left = rw z at h.left; gain = rw z at h.gain; small = cutting_small }
 
 -- a cut row, where the row is one
 module _ {f : ℕ → ℕ} {ls xs ks ps ys : List ℕ} {g : ℕ} (r : Row ls xs ks ps) (h : Shorn f xs ps ys g) where
@@ -159,7 +150,7 @@ module _ {f : ℕ → ℕ} {ls xs ks ps ys : List ℕ} {g : ℕ} (r : Row ls xs 
     pub best-fits : get_or ys k.place 0 + g < 4294967296
     best-fits =
         let a = chosen-inside ls xs ks some e in
-        omega (arith, cut-at k.place a, (held r k.place a).fraction-small, h.small)
+        omega (arith, cut-at k.place a, fraction-small r k.place, h.small)
 
 -- ---- the new row
 none_in : (ps : List ℕ) → ((p : ℕ) → In p ps → ⊥) → ps ≡ []

@@ -1,4 +1,4 @@
--- A row in the code: slices of one length, and the places that flow. The ways that they hold, and what a row has to keep to.
+-- A row in the code: lists of one length, and the places that flow. The ways that they hold, and what a row has to keep to.
 use Rattle.std.specs.Prelude.{ℕ, suc, ◌/◌, ◌%◌, ◌≤◌, ◌<◌, ◌≡◌, cond, List, [], ◌∷◌, length, get_or, eqb}
 use Rattle.rules.specs.Lists.{total, flowing}
 use Rattle.rules.specs.Sheet.{whole, largest_stored}

@@ -1,34 +1,19 @@
 -- How the code works a row out: place by place, without looking at the far nodes.
-use Rattle.std.specs.Prelude.{ℕ, ◌+◌, ◌-◌, ◌*◌, ◌/◌, ◌≤◌, ◌<◌, ◌≡◌, cond, ◌&&◌, List, [], ◌∷◌, length, get_or, set, leb, eqb}
+use Rattle.std.specs.Prelude.{ℕ, ◌+◌, ◌-◌, ◌*◌, ◌≤◌, ◌≡◌, cond, ◌&&◌, List, [], ◌∷◌, get_or, set, leb, eqb}
 use Rattle.rules.specs.Lists.{total}
-use Rattle.rules.specs.Sheet.{whole, largest_delay, largest_stored}
+use Rattle.rules.specs.Sheet.{whole, largest_delay}
 use Rattle.rules.specs.Desk.{Way, mark_told, cost, cut_by}
 use Rattle.desk.specs.Ways.{way_of}
-use Rattle.desk.specs.declared.WayHeld.{WayHeld}
-use Rattle.desk.specs.declared.Choice.{Choice}
+use Rattle.desk.specs.declared.way.WayHeld.{WayHeld}
+use Rattle.desk.specs.declared.row.Choice.{Choice}
 
 -- what the code's value says, for a way to far node 0: no leaf asks for the far node
 abbrev pub way_said : WayHeld → Way
 way_said w = way_of 0 w.line.0 w.fraction.0 w.word.0
 
--- within what the rules allow
-pub record Small (w : WayHeld) : Type 0 where
-  pub line : w.line.0 ≤ 1048576
-  pub fraction : w.fraction.0 ≤ whole
-  pub told : w.word.0 / 4 ≤ largest_stored
-
 -- the way at place p of lines, fractions and words
 abbrev pub way_at : List ℕ → List ℕ → List ℕ → ℕ → Way
 way_at ls xs ks p = way_of 0 (get_or ls p 0) (get_or xs p 0) (get_or ks p 0)
-
--- what reading place p asks
-pub record Held (ls xs ks : List ℕ) (p : ℕ) : Type 0 where
-  pub lines : length ls ≡ length xs
-  pub words : length ks ≡ length xs
-  pub inside : p < length xs
-  pub line_small : get_or ls p 0 ≤ 1048576
-  pub fraction-small : get_or xs p 0 ≤ whole
-  pub told-small : get_or ks p 0 / 4 ≤ largest_stored
 
 -- more than any candidate costs
 abbrev pub beyond : ℕ

@@ -9,41 +9,64 @@ use lib.ListN.{length, get_or, set, take, drop, replicate}
 use lib.Seq.{get_or-set_same, get_or-set_other, take_at}
 use lib.Dec.{eqb}
 use borrow.Author.Tests.{eqb-true}
-use Rattle.rules.specs.Sheet.{Link, Sheet, largest_step, largest_stored}
+use Rattle.std.specs.Prelude.{Result, Ok, Err}
+use Rattle.rules.specs.Sheet.{Link, Sheet, largest_stored}
 use Rattle.rules.specs.Bytes.{bytes}
-use Rattle.rules.specs.Judge.{refused, accepted}
+use Rattle.rules.specs.Judge.{accepted}
 use Rattle.rules.specs.Check.{check}
 use Rattle.rules.specs.Desk.{Told, silent, told, delay_told}
-use Rattle.rules.specs.Messages.{State, link_of, deliver, stopped, left, run, outcome, house}
+use Rattle.rules.specs.Messages.{State, link_of, deliver, left, run, outcome, house}
 use Rattle.rules.specs.Plates.{plate_a}
 use Rattle.rules.proofs.Demands.{sound-accepted, plate_a-sound, house-order}
 use Rattle.numbers.specs.Lines.{LinesOf}
+use Rattle.answers.specs.declared.Refusal.{Refusal}
 use Rattle.desk.specs.declared.Message.{Message}
 use Rattle.desk.specs.Ways.{told_of, message_said}
 use Rattle.sheet.specs.declared.SheetHeld.{SheetHeld}
-use Rattle.sheet.specs.Held.{sheet_said}
 use Rattle.network.proofs.Rows.{held-length, held-at}
-use Rattle.node.specs.Net.{state_said, SmallInbox, Net, RowsRise, Renewed, Lendable, Empty}
+use Rattle.node.specs.declared.NetHeld.{NetHeld}
+use Rattle.node.specs.declared.NetLent.{NetLent}
+use Rattle.node.specs.Net.{state_said, SmallInbox, NetIn, net_sheet, net_of, unordered, RowsRise, Renewed, Lendable, Empty}
+use Rattle.node.proofs.Lent.{lent, given_back}
 use Rattle.node.proofs.Held.{state_length, state_at, turns, lendable, far-rise, outcome-held}
 use Rattle.messages.specs.declared.Tally.{Tally}
 use Rattle.messages.specs.declared.Change.{Change}
-use Rattle.messages.specs.declared.Ran.{Ran}
-use Rattle.messages.specs.declared.Ran.TheVariants.{Stopped, Left}
-use Rattle.messages.specs.State.{Kept, LinkAt, Counted, step_of, Spare, Stored, Begun}
-use Rattle.messages.specs.Round.{Deliverable, Delivered, ListRun}
+use Rattle.messages.specs.declared.StateHeld.{StateHeld}
+use Rattle.messages.specs.State.{Kept, LinkIn, CountedIn, step_of, Spare, Stored, StoredIn, Begun}
+use Rattle.messages.specs.Round.{DeliverableIn, DeliveredIn, HeldIn, ListRunIn}
 use Rattle.messages.proofs.Beginning.{state_start, begun_kept}
 use Rattle.messages.proofs.Storing.{link_at_lem, counted-kept, spare-kept}
 use Rattle.messages.proofs.Delivering.{deliverable}
 use Rattle.messages.proofs.Running.{run_small}
-use Rattle.house.specs.House.{GraphHeld, HouseWritten}
-use Rattle.admit.specs.declared.Opened.{Opened}
-use Rattle.admit.specs.Opened.{opened_said, OpenedGiven, Ready, ready_if}
+use Rattle.messages.proofs.Zeros.{empty_zeros}
+use Rattle.house.specs.House.{GraphIn, HouseIn}
+use Rattle.admit.specs.Opened.{Admitted, OpenedGiven}
 use Rattle.admit.proofs.Lines.{net-ready}
-use Rattle.play.specs.Played.{AnyAccepted}
-use Rattle.play.proofs.Playing.{nothing, lined_net}
 use Rattle.false_states.specs.declared.Question.{Question}
 use Rattle.false_states.specs.declared.Follows.{Follows}
-use Rattle.false_states.specs.False.{carried_by, taken_by, Placed, Word, SentAsked, Sent, RowsAsked, RowsTaken, SentWith, TakenWith, word_said, FollowedBy, Followed, sent_by, row_by, everything}
+use Rattle.false_states.specs.False.{carried_by, taken_by, NetWith, sheet_with, Placed, Word, SentAsked, Sent, RowsAsked, RowsTaken, TakenWith, word_said, FollowedBy, Followed, sent_by, row_by, everything}
+
+-- each row is its desk's new row, whatever far nodes the rows have
+abbrev AllRenewed : ℕ → ℕ → List ℕ → List ℕ → List ℕ → List ℕ → List ℕ → List ℕ → Type 0
+AllRenewed s n tr ss line xs inbox ys = (ts : List ℕ) → ((i : ℕ) → i < n → RowsRise i ss ts) → Renewed s n tr ss ts line xs inbox ys
+
+-- ---- what is lent is what is held
+module _ (net : NetHeld) (l : NetLent) {line : List ℕ} (is : net_of l ≡ unordered net) (at : l.line.now ≡ line) where
+  pub lendable-lent : {n : ℕ} {xs inbox : List ℕ} → Lendable n net.rows.starts net.rows.flow_starts net.rows.flow line xs inbox
+      → Lendable n l.rows.starts.now l.rows.flow_starts.now l.rows.flow.now line xs inbox
+  lendable-lent {n} {xs} {inbox} = lent net l is at (λ h ls. Lendable n h.rows.starts h.rows.flow_starts h.rows.flow line xs inbox)
+
+  pub renewed-back : {s n : ℕ} {tr xs inbox ys : List ℕ} → AllRenewed s n tr l.rows.starts.now line xs inbox ys → AllRenewed s n tr net.rows.starts line xs inbox ys
+  renewed-back {s} {n} {tr} {xs} {inbox} {ys} = given_back net l is at (λ h ls. AllRenewed s n tr h.rows.starts line xs inbox ys)
+
+  pub deliverable-lent : {step j : ℕ} {st : StateHeld} {t : Tally} → DeliverableIn step j net line st t → DeliverableIn step j (net_of l) l.line.now st t
+  deliverable-lent {step} {j} {st} {t} = lent net l is at (λ n ls. DeliverableIn step j n ls st t)
+
+  pub delivered-back : {h : SheetHeld} {j : ℕ} {st st' : StateHeld} {t t' : Tally} → DeliveredIn h j (net_of l) l.line.now st st' t t' → DeliveredIn h j net line st st' t t'
+  delivered-back {h} {j} {st} {st'} {t} {t'} = given_back net l is at (λ n ls. DeliveredIn h j n ls st st' t t')
+
+  pub run-back : {r : Result Tally Refusal} {h : SheetHeld} {js : List ℕ} {st : StateHeld} → ListRunIn r h js (net_of l) l.line.now st → ListRunIn r h js net line st
+  run-back {r} {h} {js} {st} = given_back net l is at (λ n ls. ListRunIn r h js n ls st)
 
 told-delay : (x : ℕ) → delay_told (told_of x) ≡ x / 4
 told-delay x = go (eqb x 0) refl
@@ -94,86 +117,75 @@ pub empty-small : {inbox : List ℕ} → Empty inbox → SmallInbox inbox
 empty-small empty k = omega (arith, empty.silence k)
 
 -- ---- only link j was delivered, and w is stored there; then the delivery on link k
-module _ {j w k : ℕ} {h : SheetHeld} {tr fs ss gs ps line xs os inbox qs₀ : List ℕ} (asked : SentAsked j w k h tr fs ss gs ps line xs os inbox qs₀) {qs : List ℕ} {t : Tally} (begun : Begun h.head.nodes ss gs qs t) where
-  begun_now : {ts ls : List ℕ} → Net h tr fs ts ls xs ss gs ps os line → Kept h tr fs ts ls xs ss os inbox qs t
-  begun_now net = begun_kept net asked.empty begun
+module _ {j w k : ℕ} {h : SheetHeld} {net : NetHeld} {line : List ℕ} (asked : SentAsked j w k h net line) {inbox : List ℕ} (empty : Empty inbox) {qs : List ℕ} {t : Tally} (begun : Begun h.head.nodes net.rows.starts net.rows.flow_starts qs t) where
+  -- the state with its counts
+  abbrev st : StateHeld
+  st = record { inbox = inbox; quiet = qs }
 
-  abbrev net : Net h tr fs asked.held.ts asked.held.ls xs ss gs ps os line
-  net = asked.held.net
+  begun_now : {ts ls : List ℕ} → NetWith h net ts ls line → Kept h net.columns.traffic net.columns.from ts ls net.columns.fraction net.rows.starts net.opposite st.inbox st.quiet t
+  begun_now n = begun_kept n empty begun
 
-  pub storable : LinkAt j fs xs os inbox qs × Counted j fs xs os inbox qs × (0 < w)
-  storable = (link_at_lem (begun_now net) asked.stored, counted-kept (begun_now net) asked.stored, asked.word.heard)
+  pub link_there : LinkIn j net
+  link_there = link_at_lem (begun_now asked.held.net) asked.stored
+
+  pub counted_there : CountedIn j net st
+  counted_there = counted-kept (begun_now asked.held.net) asked.stored
 
   pub steppable : Spare t
-  steppable = spare-kept (begun_now net)
+  steppable = spare-kept (begun_now asked.held.net)
 
-  module _ {inbox' qs' : List ℕ} {t' : Tally} {c : Change} (put : Stored j w fs xs os inbox qs inbox' qs' c) (step : t' ≡ step_of t c) where
-    false_now : {ts ls : List ℕ} → Net h tr fs ts ls xs ss gs ps os line → Kept h tr fs ts ls xs ss os inbox' qs' t'
+  module _ {st' : StateHeld} {t' : Tally} {c : Change} (put : StoredIn j w net st st' c) (step : t' ≡ step_of t c) where
+    false_now : {ts ls : List ℕ} → NetWith h net ts ls line → Kept h net.columns.traffic net.columns.from ts ls net.columns.fraction net.rows.starts net.opposite st'.inbox st'.quiet t'
     false_now n = rw step (put.keeps (begun_now n) asked.stored)
 
-    pub sendable : Deliverable h.head.step.0 k tr fs ss gs ps line xs os inbox' qs' t'
-    sendable = deliverable net (false_now net) asked.sent (stored-small (begun_now net) asked.stored put asked.word (empty-small asked.empty))
+    pub sendable : DeliverableIn h.head.step.0 k net line st' t'
+    sendable = deliverable asked.held.net (false_now asked.held.net) asked.sent (stored-small (begun_now asked.held.net) asked.stored put asked.word (empty-small empty))
 
-    module _ {inbox'' qs'' : List ℕ} {t'' : Tally} (done : Delivered h k tr fs ss gs ps line xs os inbox' qs' inbox'' qs'' t' t'') where
-      pub placed : Placed k os inbox''
+    module _ {st'' : StateHeld} {t'' : Tally} (done : DeliveredIn h k net line st' st'' t' t'') where
+      pub placed : Placed k net.opposite st''.inbox
       placed =
-          let at = link_at_lem (done.keeps net (false_now net) asked.sent) asked.sent in
-          record { link = omega (arith, at.low, at.opposite-size); place = omega (arith, at.place, at.inbox_size) }
+          let at = link_at_lem (done.keeps asked.held.net (false_now asked.held.net) asked.sent) asked.sent in
+          record { link = omega (arith, at.low, asked.held.net.graph.opposite-size); place = omega (arith, at.place, (done.keeps asked.held.net (false_now asked.held.net) asked.sent).inbox_size) }
 
-      pub sent : {r : ℕ} → r ≡ get_or inbox'' (get_or os k 0) 0 → Sent r j w k h tr fs ss gs ps line xs os
+      pub sent : {r : ℕ} → r ≡ get_or st''.inbox (get_or net.opposite k 0) 0 → Sent r j w k h net line
       sent e = record {
         said = λ {ts} {ls} n.
             ap told_of e
-            ∙ sym (state_at h.links os inbox'' k asked.sent)
-            ∙ ap (λ (st : State). get_or st k silent) (done.said n (false_now n) asked.sent)
-            ∙ ap (λ (st : State). get_or (deliver (sheet_said h tr fs ts ls xs) st k) k silent)
-            (put.said (begun_now n) asked.stored ∙ ap (λ (st : State). set st j (told_of w)) (state_start n asked.empty));
+            ∙ sym (state_at h.links net.opposite st''.inbox k asked.sent)
+            ∙ ap (λ (s : State). get_or s k silent) (done.said n (false_now n) asked.sent)
+            ∙ ap (λ (s : State). get_or (deliver (sheet_with h net ts ls net.columns.fraction) s k) k silent)
+            (put.said (begun_now n) asked.stored ∙ ap (λ (s : State). set s j (told_of w)) (state_start n empty));
       }
 
 -- ---- a list was delivered, then w is stored on link j, and the rows are taken
-module _ {j w : ℕ} {h : SheetHeld} {tr fs ss gs ps line xs os inbox₀ qs₀ : List ℕ} (asked : RowsAsked j w h tr fs ss gs ps line xs os inbox₀ qs₀) {r : Ran} {js inbox qs : List ℕ} (ran : ListRun r h js tr fs ss gs ps line xs os inbox qs) where
-  abbrev RunAs : Ran → Type 0
-  RunAs x = ListRun x h js tr fs ss gs ps line xs os inbox qs
+module _ {j w : ℕ} {h : SheetHeld} {net : NetHeld} {line : List ℕ} (asked : RowsAsked j w h net line) {js : List ℕ} {st : StateHeld} where
+  module _ {t : Tally} (ran : ListRunIn (Ok t) h js net line st) where
+    kept-left : {ts ls : List ℕ} → NetWith h net ts ls line → Kept h net.columns.traffic net.columns.from ts ls net.columns.fraction net.rows.starts net.opposite st.inbox st.quiet t
+    kept-left n = ran.keeps n
 
-  -- a list that stops leaves no state
-  pub stopped-rows : {n p : ℕ} {ys : List ℕ} → r ≡ Stopped n p → RowsTaken false js j w h tr fs ss gs ps line os xs ys
-  stopped-rows e = record {
-    said = λ n st q. absurd (let z : ◌≡◌ {A = ℕ} 0 1 = apart ((subst RunAs e ran).said n ∙ q) in omega arith);
-  }
-    where
-      apart : {n p : ℕ} {st : State} → stopped n p ≡ left st → ◌≡◌ {A = ℕ} 0 1
-      apart e = cc
+    pub link_left : LinkIn j net
+    link_left = link_at_lem (kept-left asked.held.net) asked.stored
 
-  module _ {t : Tally} (e : r ≡ Left t) where
-    left_now : RunAs (Left t)
-    left_now = subst RunAs e ran
+    pub counted_left : CountedIn j net st
+    counted_left = counted-kept (kept-left asked.held.net) asked.stored
 
-    kept-left : {ts ls : List ℕ} → Net h tr fs ts ls xs ss gs ps os line → Kept h tr fs ts ls xs ss os inbox qs t
-    kept-left n = left_now.keeps n
+    module _ {st' : StateHeld} {c : Change} (put : StoredIn j w net st st' c) where
+      size_now : length st'.inbox ≡ 512
+      size_now = (put.keeps (kept-left asked.held.net) asked.stored).inbox_size
 
-    abbrev its : Net h tr fs asked.held.ts asked.held.ls xs ss gs ps os line
-    its = asked.held.net
-
-    pub storable_left : LinkAt j fs xs os inbox qs × Counted j fs xs os inbox qs × (0 < w)
-    storable_left = (link_at_lem (kept-left its) asked.stored, counted-kept (kept-left its) asked.stored, asked.word.heard)
-
-    module _ {inbox' qs' : List ℕ} {c : Change} (put : Stored j w fs xs os inbox qs inbox' qs' c) where
-      size_now : length inbox' ≡ 512
-      size_now = (put.keeps (kept-left its) asked.stored).inbox_size
-
-      pub takable : Lendable h.head.nodes tr ss gs ps line xs inbox' × (h.head.step.0 ≤ largest_step)
+      pub takable : Lendable h.head.nodes net.rows.starts net.rows.flow_starts net.rows.flow line net.columns.fraction st'.inbox
       takable =
-          (lendable its inbox' size_now (stored-small (kept-left its) asked.stored put asked.word (run_small left_now its)), its.graph.sound.step-top)
+          lendable asked.held.net st'.inbox size_now (stored-small (kept-left asked.held.net) asked.stored put asked.word (run_small ran asked.held.net))
 
       pub taken_rows : {ys : List ℕ}
-          → ((ts : List ℕ) → ((i : ℕ) → i < h.head.nodes → RowsRise i ss ts) → Renewed h.head.step.0 h.head.nodes tr ss ts line xs inbox' ys)
-          → RowsTaken true js j w h tr fs ss gs ps line os xs ys
+          → AllRenewed h.head.step.0 h.head.nodes net.columns.traffic net.rows.starts line net.columns.fraction st'.inbox ys
+          → RowsTaken (Ok tt) js j w h net line ys
       taken_rows {ys} renewed = record {
-        said = λ {ts} {ls} n st q.
-            let same : state_said h.links os inbox ≡ st = unleft (left_now.said n ∙ q) in (
+        said = λ {ts} {ls} n s q.
+            let same : state_said h.links net.opposite st.inbox ≡ s = unleft (ran.said n ∙ q) in (
               refl,
-              outcome-held n inbox' ys size_now (renewed ts (far-rise n))
-                  ∙ ap (outcome (sheet_said h tr fs ts ls xs)) (put.said (kept-left n) asked.stored ∙ ap (λ (x : State). set x j (told_of w)) same),
+              outcome-held n st'.inbox ys size_now (renewed ts (far-rise n))
+                  ∙ ap (outcome (sheet_with h net ts ls net.columns.fraction)) (put.said (kept-left n) asked.stored ∙ ap (λ (x : State). set x j (told_of w)) same),
             );
       }
         where
@@ -181,111 +193,90 @@ module _ {j w : ℕ} {h : SheetHeld} {tr fs ss gs ps line xs os inbox₀ qs₀ :
           unleft e = cc
 
 -- ---- over an accepted sheet
-pub graph-held : {h : SheetHeld} {tr fs ls xs ss gs ps os : List ℕ} → AnyAccepted h tr fs ls xs ss gs ps os → GraphHeld h fs ss gs xs os
-graph-held {h} {tr} {fs} {ls} {xs} {ss} {gs} {ps} some = let ready = some.1.ready in record {
-  tr = tr;
-  ts = some.1.ts;
-  ls = ls;
-  ps = ps;
-  graph = ready.graph;
-  flow = ready.flow;
-  flow-start_size = ready.room.flow-starts;
-  flow-size = ready.room.flow;
-}
-
-module _ {h : SheetHeld} {tr fs ls xs ss gs ps os line : List ℕ} (lines : LinesOf (take h.links ls) (replicate 512 0) line) {j w : ℕ} where
-  pub rows-asked : {d : ℕ} {qs : List ℕ} → AnyAccepted h tr fs ls xs ss gs ps os → j < h.links → d ≤ largest_stored → w / 4 ≡ d → 0 < w → length qs ≡ 64
-      → RowsAsked j w h tr fs ss gs ps line xs os (replicate 512 0) qs
-  rows-asked some inside top same word z = record {
-    held = lined_net nothing lines some;
-    empty = nothing;
-    counts = z;
-    word = record { heard = word; small = omega arith };
-    stored = inside;
+module _ {h : SheetHeld} {net : NetHeld} (opened : Admitted h net) where
+  pub graph-held : GraphIn h net
+  graph-held = record {
+    tr = net.columns.traffic;
+    ts = net.columns.to;
+    ls = net.columns.load;
+    ps = net.rows.flow;
+    graph = opened.graph;
+    flow = opened.flow;
+    flow-start_size = opened.sizes.flow-starts;
+    flow-size = opened.sizes.flow;
   }
 
-  pub sent-asked : {k d : ℕ} {qs : List ℕ} → AnyAccepted h tr fs ls xs ss gs ps os → j < h.links → k < h.links → d ≤ largest_stored → w / 4 ≡ d → 0 < w → length qs ≡ 64
-      → SentAsked j w k h tr fs ss gs ps line xs os (replicate 512 0) qs
-  sent-asked some inside sends top same word z = record {
-    held = lined_net nothing lines some;
-    empty = nothing;
-    counts = z;
-    word = record { heard = word; small = omega arith };
-    stored = inside;
-    sent = sends;
-  }
+  module _ {line : List ℕ} (lines : LinesOf (take h.links net.columns.load) (replicate 512 0) line) where
+    lined : NetIn h net line
+    lined = net-ready opened lines empty_zeros.size empty_zeros.silence
 
-  module _ {m : Message} (word : told_of w ≡ message_said m) where
-    pub sent_with : {k r : ℕ} → Sent r j w k h tr fs ss gs ps line xs os → SentWith r j m k h tr fs ls xs ss gs ps os
-    sent_with {k = k} sends = record {
-      said = λ {b} {ts} ready.
-          sends.said (net-ready ready lines nothing.size nothing.silence) ∙ ap (λ (x : Told). carried_by (sheet_said h tr fs ts ls xs) j x k) word;
-    }
+    its : HeldIn h net line
+    its = record { ts = net.columns.to; ls = net.columns.load; net = lined }
 
-    -- the front of the list that was delivered is the house order
-    pub taken_with : {r : Bool} {zeros list ys : List ℕ} → HouseWritten h fs ss xs os zeros list → RowsTaken r (take h.links list) j w h tr fs ss gs ps line os xs ys
-        → TakenWith r j m h tr fs ls xs ss gs ps os ys
-    taken_with {zeros = zeros} {list = list} written takes = record {
-      said = λ {b} {ts} ready st q.
-          let s : Sheet = sheet_said h tr fs ts ls xs in
-          let long : length (house s) ≡ h.links = (house-order s ready.graph.sound).1 ∙ held-length h.links fs ts ls xs in
-          let front : take h.links list ≡ house s = ap (take h.links) (written.said ready.graph) ∙ take_at (house s) (drop h.links zeros) h.links long in
-          let done = takes.said (net-ready ready lines nothing.size nothing.silence) st (ap (run s) front ∙ q) in
-          (done.0, done.1 ∙ ap (taken_by s st j) word);
-    }
+    module _ {j w d : ℕ} (inside : j < h.links) (top : d ≤ largest_stored) (same : w / 4 ≡ d) (told : 0 < w) where
+      pub rows-asked : RowsAsked j w h net line
+      rows-asked = record { held = its; word = record { heard = told; small = omega arith }; stored = inside }
 
--- ---- of a sheet's bytes
-module _ {b tr fs ts ls xs ss gs ps os ord turn : List ℕ} {o : Opened} (given : OpenedGiven o b tr fs ts ls xs ss gs ps os ord turn) where
-  pub followed_refused : {q : Question} {j : ℕ} {m : Message} {r : Follows} {ys : List ℕ} {n p : ℕ} → o ≡ Opened.Refused n p → Followed q b j m r ys
-  followed_refused e = record { said = λ s a. absurd (apart (sym (ap (λ (x : Opened). opened_said x tr fs ts ls xs) e) ∙ given.said ∙ a)) }
-    where
-      apart : {n p : ℕ} {s : Sheet} → refused n p ≡ accepted s → ⊥
-      apart e = let z : ◌≡◌ {A = ℕ} 0 1 = cc in omega arith
+      pub sent-asked : {k : ℕ} → k < h.links → SentAsked j w k h net line
+      sent-asked sends = record { held = its; word = record { heard = told; small = omega arith }; stored = inside; sent = sends }
 
-  module _ {h : SheetHeld} (e : o ≡ Opened.Accepted h) where
-    pub is_ready : Ready h b tr fs ts ls xs ss gs ps os ord turn
-    is_ready = subst (λ (x : Opened). ready_if x b tr fs ts ls xs ss gs ps os ord turn) e given.ready
+    module _ {j w : ℕ} {m : Message} (word : told_of w ≡ message_said m) where
+      pub sent_with : {k r : ℕ} → Sent r j w k h net line → told_of r ≡ carried_by (net_sheet h net) j (message_said m) k
+      sent_with {k} sends = sends.said lined ∙ ap (λ (x : Told). carried_by (net_sheet h net) j x k) word
 
-    is_sheet : (s : Sheet) → check b ≡ accepted s → sheet_said h tr fs ts ls xs ≡ s
-    is_sheet s a = inside (sym (ap (λ (x : Opened). opened_said x tr fs ts ls xs) e) ∙ given.said ∙ a)
-      where
-        inside : {s t : Sheet} → accepted s ≡ accepted t → s ≡ t
-        inside e = cc
-
-    module _ {q : Question} {j : ℕ} {m : Message} {r : Follows} {ys : List ℕ} where
-      -- what holds of the sheet that the slices hold
-      followed_by : {p : Question} → q ≡ p → (j < h.links → FollowedBy p (sheet_said h tr fs ts ls xs) j (message_said m) r ys) → Followed q b j m r ys
-      followed_by asks f = record {
-        said = λ s a.
-            subst (λ (t : Sheet). j < length t.links → FollowedBy q t j (message_said m) r ys) (is_sheet s a) (λ low.
-            subst (λ (x : Question). FollowedBy x (sheet_said h tr fs ts ls xs) j (message_said m) r ys) (sym asks) (f (omega (arith, held-length h.links fs ts ls xs))));
+      -- the front of the list that was delivered is the house order
+      pub taken_with : {r : Result Unit Refusal} {zeros list ys : List ℕ} → HouseIn h net zeros list → RowsTaken r (take h.links list) j w h net line ys → TakenWith r j m h net ys
+      taken_with {zeros = zeros} {list = list} written takes = record {
+        said = λ st q.
+            let s : Sheet = net_sheet h net in
+            let long : length (house s) ≡ h.links = (house-order s opened.graph.sound).1 ∙ held-length h.links net.columns.from net.columns.to net.columns.load net.columns.fraction in
+            let front : take h.links list ≡ house s = ap (take h.links) (written.said opened.graph) ∙ take_at (house s) (drop h.links zeros) h.links long in
+            let done = takes.said lined st (ap (run s) front ∙ q) in
+            (done.0, done.1 ∙ ap (taken_by s st j) word);
       }
 
-      pub followed_outside : h.links ≤ j → Followed q b j m r ys
-      followed_outside out = followed_by refl (λ low. absurd (omega arith))
+-- ---- of a sheet's bytes
+module _ {b : List ℕ} {net : NetHeld} {h : SheetHeld} (given : OpenedGiven (Ok h) b net) where
+  is_sheet : (s : Sheet) → check b ≡ accepted s → net_sheet h net ≡ s
+  is_sheet s a = inside (given.said ∙ a)
+    where
+      inside : {s t : Sheet} → accepted s ≡ accepted t → s ≡ t
+      inside e = cc
 
-      pub followed_nowhere : {k : ℕ} → q ≡ Question.Carries k → h.links ≤ k → Followed q b j m r ys
-      followed_nowhere asks out = followed_by asks (λ low sends. absurd (omega (arith, held-length h.links fs ts ls xs)))
+  many : length (net_sheet h net).links ≡ h.links
+  many = held-length h.links net.columns.from net.columns.to net.columns.load net.columns.fraction
 
-    module _ {q : Question} {j : ℕ} {m : Message} {ys : List ℕ} where
-      pub followed_word : {k w : ℕ} → q ≡ Question.Carries k → SentWith w j m k h tr fs ls xs ss gs ps os → Followed q b j m (Follows.Carried (record { 0 = w })) ys
-      followed_word asks sends = followed_by asks (λ low inside. sends.said is_ready)
+module _ {b : List ℕ} {net : NetHeld} {q : Question} {j : ℕ} {m : Message} {r : Follows} {ys : List ℕ} where
+  module _ {h : SheetHeld} (given : OpenedGiven (Ok h) b net) where
+    -- what holds of the sheet that the columns hold
+    followed_by : (j < h.links → FollowedBy q (net_sheet h net) j (message_said m) r ys) → Followed q b j m r ys
+    followed_by f = record {
+      said = λ s a.
+          subst (λ (t : Sheet). j < length t.links → FollowedBy q t j (message_said m) r ys) (is_sheet given s a) (λ low. f (omega (arith, many given)));
+    }
 
-      pub followed_rows : {all : Bool} → q ≡ Question.Rows → TakenWith all j m h tr fs ls xs ss gs ps os ys → Followed q b j m (Follows.Taken h.links) ys
-      followed_rows asks takes = followed_by asks (λ low st ran. (
-        ap Follows.Taken (sym (held-length h.links fs ts ls xs)),
-        λ i inside.
-            ap (λ (l : Link). l.fraction) (sym (held-at h.links fs ts ls ys i (omega (arith, held-length h.links fs ts ls xs))))
-            ∙ ap (λ (t : Sheet). (link_of t i).fraction) (takes.said is_ready st ran).1,
-      ))
+    pub followed_outside : h.links ≤ j → Followed q b j m r ys
+    followed_outside out = followed_by (λ low. absurd (omega arith))
 
-    -- the house order runs
-    pub never_stopped : {X : Type 0} {all : Bool} {j : ℕ} {m : Message} {ys : List ℕ} → all ≡ false → TakenWith all j m h tr fs ls xs ss gs ps os ys → X
-    never_stopped broken takes =
-        let done = house-order (sheet_said h tr fs ts ls xs) is_ready.graph.sound in absurd (apart (sym broken ∙ (takes.said is_ready done.0 done.2).0))
-      where
-        apart : false ≡ true → ⊥
-        apart e = let z : ◌≡◌ {A = ℕ} 0 1 = cc in omega arith
+module _ {b : List ℕ} {net : NetHeld} {h : SheetHeld} (given : OpenedGiven (Ok h) b net) {j : ℕ} {m : Message} {ys : List ℕ} where
+  pub followed_nowhere : {k : ℕ} {r : Follows} → h.links ≤ k → Followed (Question.Carries k) b j m r ys
+  followed_nowhere out = followed_by given (λ low sends. absurd (omega (arith, many given)))
+
+  pub followed_rows : TakenWith (Ok tt) j m h net ys → Followed Question.Rows b j m (Follows.Taken h.links) ys
+  followed_rows takes = followed_by given (λ low st ran. (
+    ap Follows.Taken (sym (many given)),
+    λ i inside.
+        ap (λ (l : Link). l.fraction) (sym (held-at h.links net.columns.from net.columns.to net.columns.load ys i (omega (arith, many given))))
+        ∙ ap (λ (t : Sheet). (link_of t i).fraction) (takes.said st ran).1,
+  ))
+
+-- the house order runs
+pub never_stopped : {X : Type 0} {h : SheetHeld} {net : NetHeld} → Admitted h net → {e : Refusal} {j : ℕ} {m : Message} {ys : List ℕ} → TakenWith (Err e) j m h net ys → X
+never_stopped {h = h} {net = net} opened takes =
+    let done = house-order (net_sheet h net) opened.graph.sound in absurd (apart (takes.said done.0 done.2).0)
+  where
+    apart : {e : Refusal} → ◌≡◌ {A = Result Unit Refusal} (Err e) (Ok tt) → ⊥
+    apart e = let z : ◌≡◌ {A = ℕ} 0 1 = cc in omega arith
 
 -- ---- plate A
 plate-accepted : check (bytes plate_a) ≡ accepted plate_a

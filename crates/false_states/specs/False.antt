@@ -1,18 +1,19 @@
 -- False states made by storing a word, and what the code works out from them.
-use Rattle.std.specs.Prelude.{ℕ, ◌/◌, ◌≤◌, ◌<◌, ◌≡◌, Bool, true, false, List, [], ◌∷◌, map, length, get_or, set}
+use Rattle.std.specs.Prelude.{ℕ, ◌/◌, ◌≤◌, ◌<◌, ◌≡◌, false, List, [], ◌∷◌, map, length, get_or, set, Result, Ok}
 use Rattle.rules.specs.Sheet.{Sheet, largest_stored}
 use Rattle.rules.specs.Judge.{accepted}
 use Rattle.rules.specs.Check.{check}
 use Rattle.rules.specs.Desk.{Told, silent, told, message}
 use Rattle.rules.specs.Round.{full_desk}
 use Rattle.rules.specs.Messages.{State, start, link_of, deliver, left, run, outcome, house}
+use Rattle.answers.specs.declared.Refusal.{Refusal}
 use Rattle.desk.specs.declared.Message.{Message}
 use Rattle.desk.specs.Ways.{told_of, message_said}
 use Rattle.sheet.specs.declared.SheetHeld.{SheetHeld}
 use Rattle.sheet.specs.Held.{sheet_said}
-use Rattle.node.specs.Net.{Net, Empty}
-use Rattle.messages.specs.Round.{NetHeld}
-use Rattle.admit.specs.Opened.{Ready}
+use Rattle.node.specs.declared.NetHeld.{NetHeld}
+use Rattle.node.specs.Net.{Net, net_sheet}
+use Rattle.messages.specs.Round.{HeldIn}
 use Rattle.false_states.specs.declared.Question.{Question}
 use Rattle.false_states.specs.declared.Follows.{Follows}
 
@@ -25,7 +26,12 @@ carried_by s j w k = get_or (deliver s (set (start s) j w) k) k silent
 abbrev pub taken_by : Sheet → State → ℕ → Told → Sheet
 taken_by s st j w = outcome s (set st j w)
 
--- ---- over the slices
+-- ---- over the structs, which hold one sheet: ts and ls are its far nodes and load steps, which a round doesn't read
+abbrev pub NetWith : SheetHeld → NetHeld → List ℕ → List ℕ → List ℕ → Type 0
+NetWith h net ts ls line = Net h net.columns.traffic net.columns.from ts ls net.columns.fraction net.rows.starts net.rows.flow_starts net.rows.flow net.opposite line
+
+abbrev pub sheet_with : SheetHeld → NetHeld → List ℕ → List ℕ → List ℕ → Sheet
+sheet_with h net ts ls xs = sheet_said h net.columns.traffic net.columns.from ts ls xs
 
 -- link j's place in the inbox
 pub record Placed (j : ℕ) (os inbox : List ℕ) : Type 0 where
@@ -37,40 +43,31 @@ pub record Word (w : ℕ) : Type 0 where
   pub heard : 0 < w
   pub small : w / 4 ≤ largest_stored
 
--- nothing is delivered, and there is room for the state
-pub record SentAsked (j w k : ℕ) (h : SheetHeld) (tr fs ss gs ps line xs os inbox qs : List ℕ) : Type 0 where
-  pub held : NetHeld h tr fs ss gs ps line xs os
-  pub empty : Empty inbox
-  pub counts : length qs ≡ 64
+-- a word can be stored on link j, and link k is delivered on
+pub record SentAsked (j w k : ℕ) (h : SheetHeld) (net : NetHeld) (line : List ℕ) : Type 0 where
+  pub held : HeldIn h net line
   pub word : Word w
   pub stored : j < h.links
   pub sent : k < h.links
 
--- what the rules send on link k where only link j was delivered and w is stored there, of the one sheet that the slices hold
-pub record Sent (r j w k : ℕ) (h : SheetHeld) (tr fs ss gs ps line xs os : List ℕ) : Type 0 where
-  pub said : {ts ls : List ℕ} → Net h tr fs ts ls xs ss gs ps os line
-      → told_of r ≡ carried_by (sheet_said h tr fs ts ls xs) j (told_of w) k
+-- what the rules send on link k where only link j was delivered and w is stored there
+pub record Sent (r j w k : ℕ) (h : SheetHeld) (net : NetHeld) (line : List ℕ) : Type 0 where
+  pub said : {ts ls : List ℕ} → NetWith h net ts ls line → told_of r ≡ carried_by (sheet_with h net ts ls net.columns.fraction) j (told_of w) k
 
-pub record RowsAsked (j w : ℕ) (h : SheetHeld) (tr fs ss gs ps line xs os inbox qs : List ℕ) : Type 0 where
-  pub held : NetHeld h tr fs ss gs ps line xs os
-  pub empty : Empty inbox
-  pub counts : length qs ≡ 64
+pub record RowsAsked (j w : ℕ) (h : SheetHeld) (net : NetHeld) (line : List ℕ) : Type 0 where
+  pub held : HeldIn h net line
   pub word : Word w
   pub stored : j < h.links
 
--- the fractions ys are the outcome, by the rules, of the state that the list leaves with w stored on link j
-pub record RowsTaken (r : Bool) (js : List ℕ) (j w : ℕ) (h : SheetHeld) (tr fs ss gs ps line os xs ys : List ℕ) : Type 0 where
-  pub said : {ts ls : List ℕ} → Net h tr fs ts ls xs ss gs ps os line → (st : State) → run (sheet_said h tr fs ts ls xs) js ≡ left st
-      → (r ≡ true) × (sheet_said h tr fs ts ls ys ≡ taken_by (sheet_said h tr fs ts ls xs) st j (told_of w))
+-- where the list leaves a state, the answer is Ok, and the fractions ys are the outcome, by the rules, of that state with w stored on link j
+pub record RowsTaken (r : Result Unit Refusal) (js : List ℕ) (j w : ℕ) (h : SheetHeld) (net : NetHeld) (line ys : List ℕ) : Type 0 where
+  pub said : {ts ls : List ℕ} → NetWith h net ts ls line → (st : State) → run (sheet_with h net ts ls net.columns.fraction) js ≡ left st
+      → (r ≡ Ok tt) × (sheet_with h net ts ls ys ≡ taken_by (sheet_with h net ts ls net.columns.fraction) st j (told_of w))
 
--- over an accepted sheet, of the one that the slices hold
-pub record SentWith (r j : ℕ) (m : Message) (k : ℕ) (h : SheetHeld) (tr fs ls xs ss gs ps os : List ℕ) : Type 0 where
-  pub said : {b ts ord turn : List ℕ} → Ready h b tr fs ts ls xs ss gs ps os ord turn → told_of r ≡ carried_by (sheet_said h tr fs ts ls xs) j (message_said m) k
-
-pub record TakenWith (r : Bool) (j : ℕ) (m : Message) (h : SheetHeld) (tr fs ls xs ss gs ps os ys : List ℕ) : Type 0 where
-  pub said : {b ts ord turn : List ℕ} → Ready h b tr fs ts ls xs ss gs ps os ord turn
-      → (st : State) → run (sheet_said h tr fs ts ls xs) (house (sheet_said h tr fs ts ls xs)) ≡ left st
-      → (r ≡ true) × (sheet_said h tr fs ts ls ys ≡ taken_by (sheet_said h tr fs ts ls xs) st j (message_said m))
+-- the same of an accepted sheet and its house order
+pub record TakenWith (r : Result Unit Refusal) (j : ℕ) (m : Message) (h : SheetHeld) (net : NetHeld) (ys : List ℕ) : Type 0 where
+  pub said : (st : State) → run (net_sheet h net) (house (net_sheet h net)) ≡ left st
+      → (r ≡ Ok tt) × (sheet_with h net net.columns.to net.columns.load ys ≡ taken_by (net_sheet h net) st j (message_said m))
 
 -- ---- of a sheet's bytes
 -- the word that the answer says

@@ -7,16 +7,18 @@
 
 mod plate_a;
 
-ghost use Rattle.std.specs.Prelude.{◌≡◌, [], ◌∷◌, ◌+◌, ◌*◌, ◌≤◌, ◌<◌, length, get_or};
+ghost use Rattle.std.specs.Prelude.{◌≡◌, [], ◌∷◌, ◌≤◌, ◌<◌, get_or};
 ghost use Rattle.rules.specs.Sheet.{largest_stored};
 ghost use Rattle.rules.specs.Plates.{plate_a};
-ghost use Rattle.desk.specs.Ways.{told_of};
-ghost use Rattle.play.specs.Played.{AnyAccepted};
-ghost use Rattle.false_states.specs.False.{Placed, SentAsked, Sent, RowsAsked, RowsTaken, SentWith, TakenWith, Followed, word_said, sent_by, row_by, everything};
+ghost use Rattle.desk.specs.Ways.{told_of, message_said};
+ghost use Rattle.node.specs.Net.{net_sheet};
+ghost use Rattle.admit.specs.Opened.{Admitted};
+ghost use Rattle.false_states.specs.False.{carried_by, Placed, SentAsked, Sent, RowsAsked, RowsTaken, TakenWith, Followed, word_said, sent_by, row_by, everything};
 
-use admit::Opened;
+use answers::Refusal;
 use desk::{Message, Told};
-use messages::Ran;
+use messages::StateHeld;
+use node::NetHeld;
 use numbers::{Delay, Fraction};
 use sheet::SheetHeld;
 use std::io;
@@ -32,8 +34,8 @@ enum Question {
     Rows,
 }
 
-// The answer: a word; or how many links have new fractions, which stand in a slice that the caller lends. Nothing is the answer for a
-// sheet that is refused, and for a number that is no link's.
+// The answer: a word; or how many links have new fractions, which stand in an array that the caller lends. Nothing is the answer for a
+// sheet that is refused, and for a number that is no link's: one of three cases, since `Followed` speaks of all three.
 #[derive(Clone, Copy)]
 enum Follows {
     Nothing,
@@ -49,160 +51,73 @@ struct RowHeld {
 }
 
 // The word on link j, which stands where its far node hears it.
-fn word_on(j: usize, opposite: &[u16], inbox: &[u32]) -> Told
+fn word_on(j: usize, opposite: &[u16; 512], inbox: &[u32; 512]) -> Told
     requires { Placed j opposite.now inbox.now }
     ensures { result.0 ≡ get_or inbox.now (get_or opposite.now j 0) 0 }
 {
-    let p = opposite[j] as usize;
+    let p = usize::from(opposite[j]);
     Told(inbox[p])
 }
 
 // The word that the delivery on link k stores, where only link j was delivered and w is stored there.
-fn sent_after(
-    j: usize,
-    w: Told,
-    k: usize,
-    h: SheetHeld,
-    traffic: &[u32],
-    from: &[u8],
-    to: &[u8],
-    load: &[u8],
-    starts: &[u16],
-    flow_starts: &[u16],
-    flow: &[u16],
-    line: &[u32],
-    fraction: &[u32],
-    opposite: &[u16],
-    inbox: &mut [u32],
-    quiet: &mut [u32],
-) -> Told
-    requires { SentAsked j w.0 k h traffic.now from.now starts.now flow_starts.now flow.now line.now fraction.now opposite.now inbox.old quiet.old × (length to.now ≡ 512) × (length load.now ≡ 512) }
-    ensures { Sent result.0 j w.0 k h traffic.now from.now starts.now flow_starts.now flow.now line.now fraction.now opposite.now }
+fn sent_after(j: usize, w: Told, k: usize, h: SheetHeld, net: &NetHeld, line: &[u32]) -> Told
+    requires { SentAsked j w.0 k h net.now line.now }
+    ensures { Sent result.0 j w.0 k h net.now line.now }
 {
-    let begun = messages::begin(h.head.nodes, starts, flow_starts, quiet);
-    let change = messages::store(j, w, from, fraction, opposite, inbox, quiet);
-    messages::deliver_once(
-        h,
-        k,
-        messages::stepped(begun, change),
-        traffic,
-        from,
-        to,
-        load,
-        starts,
-        flow_starts,
-        flow,
-        line,
-        fraction,
-        opposite,
-        inbox,
-        quiet,
+    let mut state = StateHeld::new();
+    let begun = messages::begin(
+        h.head.nodes,
+        &net.rows.starts,
+        &net.rows.flow_starts,
+        &mut state.quiet,
     );
-    word_on(k, opposite, inbox)
+    let change = messages::store(j, w, net, &mut state);
+    let stored = messages::stepped(begun, change);
+    let lent = net.lend(line);
+    messages::deliver_once(h, k, stored, &lent, &mut state);
+    word_on(k, &net.opposite, &state.inbox)
 }
 
-// Every node's new row, where the list was delivered and then w stored on link j. False if the list does not run.
+// Every node's new row, where the list was delivered and then w stored on link j.
 fn take_after(
     list: &[u16],
     j: usize,
     w: Told,
     h: SheetHeld,
-    traffic: &[u32],
-    from: &[u8],
-    to: &[u8],
-    load: &[u8],
-    starts: &[u16],
-    flow_starts: &[u16],
-    flow: &[u16],
+    net: &NetHeld,
     line: &[u32],
-    opposite: &[u16],
-    inbox: &mut [u32],
-    quiet: &mut [u32],
-    fraction: &mut [u32],
-) -> bool
-    requires { RowsAsked j w.0 h traffic.now from.now starts.now flow_starts.now flow.now line.now fraction.old opposite.now inbox.old quiet.old × (length to.now ≡ 512) × (length load.now ≡ 512) }
-    ensures { RowsTaken result list.now j w.0 h traffic.now from.now starts.now flow_starts.now flow.now line.now opposite.now fraction.old fraction.new }
+    fraction: &mut [u32; 512],
+) -> Result<(), Refusal>
+    requires { RowsAsked j w.0 h net.now line.now }
+    ensures { RowsTaken result list.now j w.0 h net.now line.now fraction.new }
 {
-    let ran = messages::run_list(
+    let lent = net.lend(line);
+    let mut state = StateHeld::new();
+    messages::run_list(h, list, &lent, &mut state)?;
+    messages::store(j, w, net, &mut state);
+    *fraction = net.columns.fraction;
+    node::take_rows(
         h,
-        list,
-        traffic,
-        from,
-        to,
-        load,
-        starts,
-        flow_starts,
-        flow,
+        &net.columns.traffic,
+        &lent.rows,
         line,
+        &state.inbox,
         fraction,
-        opposite,
-        inbox,
-        quiet,
     );
-    match ran {
-        Ran::Stopped(_, _) => {
-            return false;
-        }
-        Ran::Left(_) => {
-            messages::store(j, w, from, fraction, opposite, inbox, quiet);
-            node::take_rows(
-                h.head.step,
-                h.head.nodes,
-                traffic,
-                starts,
-                flow_starts,
-                flow,
-                line,
-                inbox,
-                fraction,
-            );
-            return true;
-        }
-    }
+    Ok(())
 }
 
 // Over an accepted sheet: m is stored on link j, and link k then carries this.
-fn sent_with(
-    j: usize,
-    m: Message,
-    k: usize,
-    h: SheetHeld,
-    traffic: &[u32],
-    from: &[u8],
-    to: &[u8],
-    load: &[u8],
-    starts: &[u16],
-    flow_starts: &[u16],
-    flow: &[u16],
-    fraction: &[u32],
-    opposite: &[u16],
-) -> Told
-    requires { AnyAccepted h traffic.now from.now load.now fraction.now starts.now flow_starts.now flow.now opposite.now × (j < h.links) × (k < h.links) × (m.delay.0 ≤ largest_stored) × (length to.now ≡ 512) }
-    ensures { SentWith result.0 j m k h traffic.now from.now load.now fraction.now starts.now flow_starts.now flow.now opposite.now }
+fn sent_with(j: usize, m: Message, k: usize, h: SheetHeld, net: &NetHeld) -> Told
+    requires accepted { Admitted h net.now }
+    requires stored { j < h.links }
+    requires sent { k < h.links }
+    requires small { m.delay.0 ≤ largest_stored }
+    ensures { told_of result.0 ≡ carried_by (net_sheet h net.now) j (message_said m) k }
 {
     let mut line = [0u32; 512];
-    let mut inbox = [0u32; 512];
-    let mut quiet = [0u32; 64];
-    let count = h.links;
-    numbers::write_line_delays(&load[..count], &mut line);
-    sent_after(
-        j,
-        desk::told_by(m),
-        k,
-        h,
-        traffic,
-        from,
-        to,
-        load,
-        starts,
-        flow_starts,
-        flow,
-        &line,
-        fraction,
-        opposite,
-        &mut inbox,
-        &mut quiet,
-    )
+    numbers::write_line_delays(&net.columns.load[..h.links], &mut line);
+    sent_after(j, desk::told_by(m), k, h, net, &line)
 }
 
 // Over an accepted sheet: its house order is delivered, m is stored on link j, and every node takes its new row.
@@ -210,88 +125,43 @@ fn taken_with(
     j: usize,
     m: Message,
     h: SheetHeld,
-    traffic: &[u32],
-    from: &[u8],
-    to: &[u8],
-    load: &[u8],
-    starts: &[u16],
-    flow_starts: &[u16],
-    flow: &[u16],
-    opposite: &[u16],
-    fraction: &mut [u32],
-) -> bool
-    requires { AnyAccepted h traffic.now from.now load.now fraction.old starts.now flow_starts.now flow.now opposite.now × (j < h.links) × (m.delay.0 ≤ largest_stored) × (length to.now ≡ 512) }
-    ensures { TakenWith result j m h traffic.now from.now load.now fraction.old starts.now flow_starts.now flow.now opposite.now fraction.new }
+    net: &NetHeld,
+    fraction: &mut [u32; 512],
+) -> Result<(), Refusal>
+    requires accepted { Admitted h net.now }
+    requires stored { j < h.links }
+    requires small { m.delay.0 ≤ largest_stored }
+    ensures { TakenWith result j m h net.now fraction.new }
 {
     let mut line = [0u32; 512];
-    let mut inbox = [0u32; 512];
-    let mut quiet = [0u32; 64];
     let mut list = [0u16; 512];
-    let mut marks = [0u32; 512];
-    let mut counts = [0u32; 64];
-    let count = h.links;
-    numbers::write_line_delays(&load[..count], &mut line);
-    house::write_house(
-        h,
-        from,
-        starts,
-        flow_starts,
-        fraction,
-        opposite,
-        &mut marks,
-        &mut counts,
-        &mut list,
-    );
+    let mut state = StateHeld::new();
+    numbers::write_line_delays(&net.columns.load[..h.links], &mut line);
+    house::write_house(h, net, &mut state, &mut list);
     take_after(
-        &list[..count],
+        &list[..h.links],
         j,
         desk::told_by(m),
         h,
-        traffic,
-        from,
-        to,
-        load,
-        starts,
-        flow_starts,
-        flow,
+        net,
         &line,
-        opposite,
-        &mut inbox,
-        &mut quiet,
         fraction,
     )
 }
 
 // What follows where m is stored on link j of a sheet.
-fn work_out(question: Question, sheet: &[u8], j: usize, m: Message, fraction: &mut [u32]) -> Follows
-    requires { (m.delay.0 ≤ largest_stored) × (length fraction.old ≡ 512) }
+fn work_out(
+    question: Question,
+    sheet: &[u8],
+    j: usize,
+    m: Message,
+    fraction: &mut [u32; 512],
+) -> Follows
+    requires { m.delay.0 ≤ largest_stored }
     ensures { Followed question sheet.now j m result fraction.new }
 {
-    let mut traffic = [0u32; 64];
-    let mut from = [0u8; 512];
-    let mut to = [0u8; 512];
-    let mut load = [0u8; 512];
-    let mut starts = [0u16; 65];
-    let mut flow_starts = [0u16; 65];
-    let mut flow = [0u16; 512];
-    let mut opposite = [0u16; 512];
-    let mut order = [0u8; 64];
-    let mut turn = [0u8; 64];
-    let opened = admit::open(
-        sheet,
-        &mut traffic,
-        &mut from,
-        &mut to,
-        &mut load,
-        fraction,
-        &mut starts,
-        &mut flow_starts,
-        &mut flow,
-        &mut opposite,
-        &mut order,
-        &mut turn,
-    );
-    let Opened::Accepted(h) = opened else {
+    let mut net = NetHeld::new();
+    let Ok(h) = admit::open(sheet, &mut net) else {
         return Follows::Nothing;
     };
     let count = h.links;
@@ -303,43 +173,12 @@ fn work_out(question: Question, sheet: &[u8], j: usize, m: Message, fraction: &m
             if count <= k {
                 return Follows::Nothing;
             }
-            let w = sent_with(
-                j,
-                m,
-                k,
-                h,
-                &traffic,
-                &from,
-                &to,
-                &load,
-                &starts,
-                &flow_starts,
-                &flow,
-                fraction,
-                &opposite,
-            );
-            return Follows::Carried(w);
+            Follows::Carried(sent_with(j, m, k, h, &net))
         }
-        Question::Rows => {
-            let all = taken_with(
-                j,
-                m,
-                h,
-                &traffic,
-                &from,
-                &to,
-                &load,
-                &starts,
-                &flow_starts,
-                &flow,
-                &opposite,
-                fraction,
-            );
-            if all {
-                return Follows::Taken(count);
-            }
-            return Follows::Nothing;
-        }
+        Question::Rows => match taken_with(j, m, h, &net, fraction) {
+            Ok(()) => Follows::Taken(count),
+            Err(_) => Follows::Nothing,
+        },
     }
 }
 
@@ -347,9 +186,8 @@ fn word_in(f: Follows) -> Told
     ensures { told_of result.0 ≡ word_said f }
 {
     match f {
-        Follows::Nothing => Told(0),
         Follows::Carried(w) => w,
-        Follows::Taken(_) => Told(0),
+        Follows::Nothing | Follows::Taken(_) => Told(0),
     }
 }
 
@@ -396,22 +234,6 @@ fn row_on_plate_a(delay: Delay) -> RowHeld
     }
 }
 
-fn print_text(rt: &impl Print, text: &[u8]) -> io::Result<()> {
-    rt.write_all(text)
-}
-
-fn print_number(rt: &impl Print, x: u32) -> io::Result<()> {
-    rt.print(x)
-}
-
-// What was stored, and where.
-fn print_stored(rt: &impl Print, kind: &[u8], delay: Delay, place: &[u8]) -> io::Result<()> {
-    print_text(rt, kind)?;
-    print_text(rt, b" word ")?;
-    print_number(rt, delay.0)?;
-    print_text(rt, place)
-}
-
 // A word is four times its delay, and 1, and 2 more with the blocked mark.
 fn delay_in(w: Told) -> u32 {
     w.0 / 4
@@ -421,121 +243,78 @@ fn mark_in(w: Told) -> u32 {
     w.0 / 2 % 2
 }
 
-fn show_word(rt: &impl Print, kind: &[u8], delay: Delay) -> io::Result<()>
+fn show_word(rt: &impl Print, kind: &str, delay: Delay) -> io::Result<()>
     requires { delay.0 ≤ largest_stored }
 {
-    print_stored(rt, kind, delay, b" on (0,1), nothing else delivered: ")?;
+    let stored = delay.0;
     let w = word_on_plate_a(delay);
-    print_text(rt, b"(1,2) carries ")?;
-    print_number(rt, delay_in(w))?;
-    if mark_in(w) == 1 {
-        print_text(rt, b", marked\n")
+    let carried = delay_in(w);
+    let mark = if mark_in(w) == 1 {
+        "marked"
     } else {
-        print_text(rt, b", unmarked\n")
-    }
+        "unmarked"
+    };
+    println!(rt;
+        "{kind} word {stored} on (0,1), nothing else delivered: (1,2) carries {carried}, {mark}"
+    )
 }
 
-fn show_row(rt: &impl Print, kind: &[u8], delay: Delay) -> io::Result<()>
+fn show_row(rt: &impl Print, kind: &str, delay: Delay) -> io::Result<()>
     requires { delay.0 ≤ largest_stored }
 {
-    print_stored(rt, kind, delay, b" on (2,1), everything delivered: ")?;
+    let stored = delay.0;
     let row = row_on_plate_a(delay);
-    print_text(rt, b"node 1's row ")?;
-    print_number(rt, row.direct.0)?;
-    print_text(rt, b" ")?;
-    print_number(rt, row.over.0)?;
-    print_text(rt, b"\n")
+    let direct = row.direct.0;
+    let over = row.over.0;
+    println!(rt;
+        "{kind} word {stored} on (2,1), everything delivered: node 1's row {direct} {over}"
+    )
 }
 
 fn show_plate_a(rt: &impl Print) -> io::Result<()> {
-    show_word(rt, b"true", Delay(0))?;
-    show_word(rt, b"false", Delay(100))?;
-    show_row(rt, b"true", Delay(16))?;
-    show_row(rt, b"false", Delay(100))
-}
-
-fn print_word(rt: &impl Print, w: Told) -> io::Result<()> {
-    print_text(rt, b"carries ")?;
-    print_number(rt, delay_in(w))?;
-    print_text(rt, b" ")?;
-    print_number(rt, mark_in(w))?;
-    print_text(rt, b"\n")
+    show_word(rt, "true", Delay(0))?;
+    show_word(rt, "false", Delay(100))?;
+    show_row(rt, "true", Delay(16))?;
+    show_row(rt, "false", Delay(100))
 }
 
 // A line for each link.
-fn print_fractions(rt: &impl Print, count: usize, fraction: &[u32]) -> io::Result<()> {
-    let mut j = 0;
-    while j < count {
-        if j < fraction.len() {
-            print_number(rt, fraction[j])?;
-        }
-        print_text(rt, b"\n")?;
-        j += 1;
+fn print_fractions(rt: &impl Print, fraction: &[u32]) -> io::Result<()> {
+    for x in fraction {
+        println!(rt; "{x}")?;
     }
     Ok(())
 }
 
 fn print_follows(rt: &impl Print, f: Follows, fraction: &[u32]) -> io::Result<()> {
     match f {
-        Follows::Nothing => print_text(rt, b"no such case\n"),
-        Follows::Carried(w) => print_word(rt, w),
-        Follows::Taken(count) => print_fractions(rt, count, fraction),
+        Follows::Nothing => println!(rt; "no such case"),
+        Follows::Carried(w) => println!(rt; "carries {} {}", delay_in(w), mark_in(w)),
+        Follows::Taken(count) => print_fractions(rt, fraction.get(..count).unwrap_or(fraction)),
     }
-}
-
-fn wide(x: u8) -> u32
-    ensures { result ≤ 255 }
-{
-    x as u32
-}
-
-fn whole(x: u8) -> usize
-    ensures { result ≤ 255 }
-{
-    x as usize
-}
-
-fn link_at(b: &[u8], at: usize) -> usize
-    requires { at + 1 < length b.now }
-{
-    whole(b[at]) * 256 + whole(b[at + 1])
-}
-
-fn delay_at(b: &[u8], at: usize) -> u32
-    requires { at + 3 < length b.now }
-{
-    wide(b[at]) * 16777216 + wide(b[at + 1]) * 65536 + wide(b[at + 2]) * 256 + wide(b[at + 3])
 }
 
 // What follows in the case that these bytes are.
-fn follow_case(b: &[u8], fraction: &mut [u32]) -> Follows
-    requires { length fraction.old ≡ 512 }
-{
-    if b.len() < 10 {
+fn follow_case(b: &[u8], fraction: &mut [u32; 512]) -> Follows {
+    let Some((case, sheet)) = b.split_first_chunk::<10>() else {
+        return Follows::Nothing;
+    };
+    let [question, j0, j1, d0, d1, d2, d3, mark, k0, k1] = *case;
+    let delay = u32::from_be_bytes([d0, d1, d2, d3]);
+    if LARGEST_STORED < delay || 1 < mark {
         return Follows::Nothing;
     }
-    let question = b[0];
-    let j = link_at(b, 1);
-    let delay = delay_at(b, 3);
-    let mark = b[7];
-    let k = link_at(b, 8);
-    if LARGEST_STORED < delay {
-        return Follows::Nothing;
-    }
-    if 1 < mark {
-        return Follows::Nothing;
-    }
+    let asked = match question {
+        1 => Question::Carries(usize::from(u16::from_be_bytes([k0, k1]))),
+        2 => Question::Rows,
+        _ => return Follows::Nothing,
+    };
+    let j = usize::from(u16::from_be_bytes([j0, j1]));
     let m = Message {
         delay: Delay(delay),
         blocked: mark == 1,
     };
-    if question == 1 {
-        return work_out(Question::Carries(k), &b[10..], j, m, fraction);
-    }
-    if question == 2 {
-        return work_out(Question::Rows, &b[10..], j, m, fraction);
-    }
-    Follows::Nothing
+    work_out(asked, sheet, j, m, fraction)
 }
 
 fn answer(rt: &impl Print, b: &[u8]) -> io::Result<()> {

@@ -1,12 +1,12 @@
 -- The choices, one by one: the numbers written, with the choices that are left, are the house order.
-use Prim.Native.Nat.{ℕ, zero, suc, ◌+◌, ◌-◌, ◌≤◌, ◌<◌}
+use Prim.Native.Nat.{ℕ, suc, ◌+◌, ◌-◌, ◌≤◌, ◌<◌}
 use native.Mathlib.Omega.{arith}
 use native.Mathlib.Numerals.{add-one}
 use native.Mathlib.Decide.{ℕ_discrete, dec_lt}
 use mathlib.Core.Path.{◌≡◌, refl, sym, ap, ap₂, ◌∙◌}
 use mathlib.Core.Bool.{true}
 use mathlib.Core.List.{List, [], ◌∷◌, ◌++◌, map, append_assoc, append-nil}
-use lib.ListN.{length, get_or, take, drop, set, length-set, replicate, length-map, length-replicate, take-append-drop}
+use lib.ListN.{length, get_or, take, drop, set, length-set, length-map, length-replicate, take-append-drop}
 use lib.Seq.{take-suc-set, drop-set-lt, drop-drop, get_or-set_same, get_or-set_other}
 use Rattle.rules.specs.Lists.{bit, below, Place, at}
 use Rattle.rules.specs.Sheet.{Sheet, line_delay}
@@ -14,7 +14,7 @@ use Rattle.rules.specs.Desk.{silent, heard, message}
 use Rattle.rules.specs.Messages.{State, start, sender, waits, deliver, delivered, lowest_waiting, chosen, house_from, house}
 use Rattle.rules.proofs.Lists.{below_length, table_at, table_out}
 use Rattle.rules.proofs.Desk.{line-top}
-use Rattle.rules.proofs.First.{lowest-below}
+use Rattle.rules.proofs.First.{Lowest, lowest-below}
 use Rattle.rules.proofs.Right.{undelivered}
 use Rattle.rules.proofs.Live.{count_start, some-waits}
 use Rattle.rules.proofs.Alike.{HeardAlike, waits_alike}
@@ -23,17 +23,19 @@ use Rattle.sheet.specs.declared.SheetHeld.{SheetHeld}
 use Rattle.sheet.specs.Held.{sheet_said}
 use Rattle.network.specs.Rows.{Flow}
 use Rattle.network.proofs.Rows.{held-length, rising_sorted}
+use Rattle.node.specs.declared.NetHeld.{NetHeld}
 use Rattle.node.specs.Net.{state_said, Graph, Net, Empty}
 use Rattle.node.proofs.Held.{state_length, links-few}
+use Rattle.messages.specs.declared.StateHeld.{StateHeld}
 use Rattle.messages.specs.declared.Tally.{Tally}
 use Rattle.messages.specs.declared.Change.{Change}
-use Rattle.messages.specs.State.{waiting_at, step_of, Kept, LinkAt, Counted, Stored, RowsAt, Begun}
+use Rattle.messages.specs.State.{waiting_at, step_of, Kept, Stored, Begun}
 use Rattle.messages.proofs.Counts.{heard-set}
 use Rattle.messages.proofs.Storing.{from_in, waits_kept, link_at_lem, counted-kept}
-use Rattle.messages.proofs.Beginning.{rows_at, state_start, begun_kept}
-use Rattle.house.specs.declared.Spot.{Spot}
-use Rattle.house.specs.House.{Passed, Searchable, LowestAt, Found, ChosenStored, GraphHeld, HouseWritten}
-use Rattle.house.proofs.Digits.{every_live}
+use Rattle.messages.proofs.Beginning.{state_start, begun_kept}
+use Rattle.house.specs.declared.Search.{Search}
+use Rattle.messages.specs.State.{LinkIn, CountedIn}
+use Rattle.house.specs.House.{near, Passed, Fresh, Searchable, Found, ChosenStored, GraphIn, HouseIn}
 
 -- ---- the net of a graph: its lines' delays stand in no slice here
 module _ {h : SheetHeld} {tr fs ts ls xs ss os : List ℕ} (graph : Graph h tr fs ts ls xs ss os) where
@@ -62,7 +64,7 @@ module _ {h : SheetHeld} {tr fs ts ls xs ss os : List ℕ} (graph : Graph h tr f
 pub record Standing (h : SheetHeld) (tr fs ts ls ss xs os inbox qs out : List ℕ) (t : Tally) (k : ℕ) : Type 0 where
   pub kept : Kept h tr fs ts ls xs ss os inbox qs t
   pub made : delivered (state_said h.links os inbox) ≡ k
-  -- the state with the messages that the nodes work out, where the slices have the one word
+  -- the state with the messages that the nodes work out, where the lists have the one word
   pub real : State
   pub real_size : length real ≡ h.links
   pub alike : HeardAlike (sheet_said h tr fs ts ls xs) (state_said h.links os inbox) real
@@ -99,12 +101,12 @@ module _ {h : SheetHeld} {tr fs ts ls xs ss os : List ℕ} (graph : Graph h tr f
         let inside : w.0 < h.links = omega (arith, w.2, many) in
         (w.0, inside, waits_kept inv.kept inside ∙ w.3)
 
-    standing_all : h.links ≤ k → k ≤ h.links → take k out ≡ house s
-    standing_all a b =
+    standing_all : k ≡ h.links → take k out ≡ house s
+    standing_all end =
         let z : h.links - k ≡ 0 = omega arith in
         sym (inv.rest ∙ ap (λ (m : ℕ). take k out ++ house_from m s inv.real) z ∙ append-nil (take k out))
 
-    module _ {j : ℕ} (lowest : LowestAt h.links fs xs os inbox qs j) where
+    module _ {j : ℕ} (lowest : Lowest (λ p. waiting_at p fs xs os inbox qs) h.links j) where
       waits-here : (p : ℕ) → p < h.links → waits s inv.real p ≡ waiting_at p fs xs os inbox qs
       waits-here p a = sym (waits_kept inv.kept a ∙ waits_alike s st inv.real p (λ i b e. inv.alike i b) (inv.alike p (omega (arith, many))))
 
@@ -148,88 +150,62 @@ module _ {h : SheetHeld} {tr fs ts ls xs ss os : List ℕ} (graph : Graph h tr f
               ap heard (get_or-set_other st j p (told_of 1) silent ne) ∙ inv.alike p a
               ∙ sym (ap heard (get_or-set_other inv.real j p (message (sender s inv.real j)) silent ne))
 
-zeros : (n m : ℕ) → ◌≡◌ {A = ℕ} (get_or (replicate n 0) m 0) 0
-zeros zero m = refl
-zeros (suc n) zero = refl
-zeros (suc n) (suc m) = zeros n m
-
 -- ---- for every such sheet, with the tally that the state would have
-pub record Choosing (h : SheetHeld) (fs ss xs os inbox qs cs out₀ out : List ℕ) (live k : ℕ) : Type 0 where
-  pub within : k ≤ h.links
-  pub few : h.links ≤ 512
-  pub inbox_size : length inbox ≡ 512
-  pub quiet-size : length qs ≡ 64
-  pub out_size : length out ≡ length out₀
+pub record Choosing (h : SheetHeld) (net : NetHeld) (st : StateHeld) (search : Search) (out₀ out : List ℕ) (k : ℕ) : Type 0 where
   pub behind : drop k out ≡ drop k out₀
-  pub passed : Passed h.links live fs xs os inbox qs cs
+  pub passed : Passed h.links net st search
   pub tally : Tally
-  pub each : {tr ts ls : List ℕ} → Graph h tr fs ts ls xs ss os → Standing h tr fs ts ls ss xs os inbox qs out tally k
+  pub each : {tr ts ls : List ℕ} → Graph h tr net.columns.from ts ls net.columns.fraction net.rows.starts net.opposite
+      → Standing h tr net.columns.from ts ls net.rows.starts net.columns.fraction net.opposite st.inbox st.quiet out tally k
 
-module _ {h : SheetHeld} {fs ss gs xs os : List ℕ} (held : GraphHeld h fs ss gs xs os) where
-  pub choosing_rows : {qs : List ℕ} → length qs ≡ 64 → RowsAt h.head.nodes ss gs qs
-  choosing_rows z = rows_at (graph-net held.graph held.flow held.flow-start_size held.flow-size) z
-
-  pub choosing_none : {inbox qs out : List ℕ} {t : Tally} → Empty inbox → Begun h.head.nodes ss gs qs t → Choosing h fs ss xs os inbox qs (replicate 64 0) out out 18446744073709551615 0
-  choosing_none {inbox} {t = t} empty begun = record {
-    within = omega arith;
-    few = links-few held.graph;
-    inbox_size = empty.size;
-    quiet-size = begun.size;
-    out_size = refl;
+module _ {h : SheetHeld} (net : NetHeld) (held : GraphIn h net) where
+  pub choosing_none : {st : StateHeld} {search : Search} {out : List ℕ} {t : Tally} → Empty st.inbox → Begun h.head.nodes net.rows.starts net.rows.flow_starts st.quiet t → Fresh search → Choosing h net st search out out 0
+  choosing_none {st} {t = t} empty begun fresh = record {
     behind = refl;
-    passed = record { size = length-replicate {A = ℕ} 64 0; behind = λ p a b. absurd (omega (arith, zeros 64 (get_or fs p 0))); shut = λ p a b. absurd (omega (arith, every_live (get_or fs p 0) (from_low p a))) };
+    passed = record { behind = λ p a b. absurd (omega (arith, fresh.cursor (near net p) (from_low p a))); shut = λ p a b. absurd (omega (arith, fresh.live (near net p) (from_low p a))) };
     tally = t;
     each = λ graph. standing_none graph held.flow held.flow-start_size held.flow-size empty begun;
   }
     where
-      from_low : (p : ℕ) → p < h.links → get_or fs p 0 < 64
-      from_low p a = omega (arith, held.graph.sound.few, from_in (standing_none held.graph {inbox = inbox} {out = []} held.flow held.flow-start_size held.flow-size empty begun).kept a)
+      from_low : (p : ℕ) → p < h.links → near net p < 64
+      from_low p a = omega (arith, held.graph.sound.few, from_in (standing_none held.graph {out = []} held.flow held.flow-start_size held.flow-size empty begun).kept a)
 
-  module _ {inbox qs cs out₀ out : List ℕ} {live k : ℕ} (inv : Choosing h fs ss xs os inbox qs cs out₀ out live k) where
-    abbrev now : Standing h held.tr fs held.ts held.ls ss xs os inbox qs out inv.tally k
+  module _ {st : StateHeld} {search : Search} {out₀ out : List ℕ} {k : ℕ} (inv : Choosing h net st search out₀ out k) where
+    abbrev now : Standing h held.tr net.columns.from held.ts held.ls net.rows.starts net.columns.fraction net.opposite st.inbox st.quiet out inv.tally k
     now = inv.each held.graph
 
-    pub choosing_search : k < h.links → Searchable h live fs ss xs os inbox qs cs
+    pub choosing_search : k < h.links → Searchable h net st search
     choosing_search a =
         let w = standing_some held.graph now a in
         record {
           few = held.graph.sound.few;
-          start-size = held.graph.start-size;
           links = λ j b. link_at_lem now.kept b;
           rows = held.graph.rows;
-          sorted = rising_sorted h.links fs held.ts held.ls xs held.graph.sound.rising (λ j b. from_in now.kept b);
+          sorted = rising_sorted h.links net.columns.from held.ts held.ls net.columns.fraction held.graph.sound.rising (λ j b. from_in now.kept b);
           passed = inv.passed;
           some = w.0;
           some_in = w.1;
           some-waits = w.2;
         }
 
-    pub choosing_all : h.links ≤ k → HouseWritten h fs ss xs os out₀ out
+    pub choosing_all : k ≡ h.links → HouseIn h net out₀ out
     choosing_all end = record {
       said = λ graph.
-          let z : k ≡ h.links = omega (arith, inv.within) in
-          sym (take-append-drop k out) ∙ ap₂ (λ (a b : List ℕ). a ++ b) (standing_all graph (inv.each graph) end inv.within) (inv.behind ∙ ap (λ (m : ℕ). drop m out₀) z);
+          sym (take-append-drop k out) ∙ ap₂ (λ (a b : List ℕ). a ++ b) (standing_all graph (inv.each graph) end) (inv.behind ∙ ap (λ (m : ℕ). drop m out₀) end);
     }
 
-    module _ {r : Spot} {cs' : List ℕ} (found : Found h r fs xs os inbox qs cs') where
-      pub choosing_link : LinkAt r.link fs xs os inbox qs
+    module _ {j : ℕ} {search' : Search} (found : Found h j net st search') where
+      pub choosing_link : LinkIn j net
       choosing_link = link_at_lem now.kept found.lowest.inside
 
-      pub choosing_counted : Counted r.link fs xs os inbox qs
+      pub choosing_counted : CountedIn j net st
       choosing_counted = counted-kept now.kept found.lowest.inside
 
-      pub choosing_more : {inbox' qs' cs'' : List ℕ} {more : ℕ} → k < h.links → h.links ≤ length out₀ → ChosenStored r.link r.live fs xs os inbox qs cs' inbox' qs' cs'' more
-          → Choosing h fs ss xs os inbox' qs' cs'' out₀ (set out k r.link) more (k + 1)
-      choosing_more a b put =
-          let kept = put.stored.keeps now.kept found.lowest.inside in
-          record {
-            within = omega arith;
-            few = inv.few;
-            inbox_size = kept.inbox_size;
-            quiet-size = kept.quiet-size;
-            out_size = length-set out k r.link ∙ inv.out_size;
-            behind = drop-set-lt (k + 1) out k r.link (omega arith) ∙ sym (drop-drop 1 k out) ∙ ap (drop 1) inv.behind ∙ drop-drop 1 k out₀;
-            passed = put.passed now.kept found.lowest.inside found.passed;
-            tally = step_of inv.tally put.change;
-            each = λ graph. standing_more graph (inv.each graph) found.lowest a (omega (arith, inv.out_size)) put.stored;
-          }
+      pub choosing_more : {st' : StateHeld} {search'' : Search} → k < h.links → k < length out → ChosenStored j net st search' st' search''
+          → Choosing h net st' search'' out₀ (set out k j) (k + 1)
+      choosing_more a room put = record {
+        behind = drop-set-lt (k + 1) out k j (omega arith) ∙ sym (drop-drop 1 k out) ∙ ap (drop 1) inv.behind ∙ drop-drop 1 k out₀;
+        passed = put.passed now.kept found.lowest.inside found.passed;
+        tally = step_of inv.tally put.change;
+        each = λ graph. standing_more graph (inv.each graph) found.lowest a room put.stored;
+      }

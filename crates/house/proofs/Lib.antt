@@ -1,4 +1,4 @@
-pub mod Digits
+pub mod Nodes
 pub mod Searching
 pub mod Storing
 pub mod Choosing

@@ -1,102 +1,88 @@
 -- The search: along a row, and along the rows.
-use Prim.Native.Nat.{ℕ, ◌+◌, ◌-◌, ◌≤◌, ◌<◌}
+use Prim.Native.Nat.{ℕ, ◌+◌, ◌≤◌, ◌<◌, max}
 use native.Mathlib.Omega.{arith}
 use native.Mathlib.Decide.{ℕ_discrete, dec_lt}
 use mathlib.Core.Path.{◌≡◌, sym, ap, ◌∙◌}
-use mathlib.Core.Bool.{Bool, true, false}
-use mathlib.Core.List.{List}
-use lib.ListN.{get_or, set, length-set}
+use mathlib.Core.Bool.{true, false}
+use lib.ListN.{length, get_or, set}
 use lib.Seq.{get_or-set_same, get_or-set_other}
-use borrow.Author.Count.{below_more}
+use Rattle.std.specs.Prelude.{Option, None, Some, MatchOption}
+use Rattle.std.specs.Option.{unwrap_or}
 use Rattle.rules.proofs.Tests.{clash}
 use Rattle.sheet.specs.declared.SheetHeld.{SheetHeld}
-use Rattle.messages.specs.State.{waiting_at}
-use Rattle.house.specs.Nodes.{digit, Without, FirstIn}
-use Rattle.house.specs.declared.Spot.{Spot}
-use Rattle.house.specs.House.{LinksAt, NextFrom, Behind, Passed, Searchable, Found}
+use Rattle.node.specs.declared.NetHeld.{NetHeld}
+use Rattle.messages.specs.declared.StateHeld.{StateHeld}
+use Rattle.std.specs.Int.{bit_at}
+use Rattle.house.specs.Nodes.{Without, FirstIn}
+use Rattle.house.specs.declared.Search.{Search}
+use Rattle.messages.specs.State.{waiting_in}
+use Rattle.house.specs.House.{LinksIn, near, NextFrom, Behind, Passed, Searchable, Found}
 
--- ---- along a row, up to j
-pub record Along (start j : ℕ) (fs xs os inbox qs : List ℕ) : Type 0 where
-  pub low : start ≤ j
-  pub before : (p : ℕ) → start ≤ p → p < j → waiting_at p fs xs os inbox qs ≡ false
-
-module _ {start : ℕ} {fs xs os inbox qs : List ℕ} where
-  pub along_none : Along start start fs xs os inbox qs
-  along_none = record { low = omega arith; before = λ p a b. absurd (omega arith) }
-
-  module _ {j : ℕ} (inv : Along start j fs xs os inbox qs) where
-    pub along_more : {r : Bool} → r ≡ waiting_at j fs xs os inbox qs → r ≡ false → Along start (j + 1) fs xs os inbox qs
-    along_more e f = record {
-      low = omega (arith, inv.low);
-      before = λ p a b. below_more (λ (q : ℕ). start ≤ q → waiting_at q fs xs os inbox qs ≡ false) j (λ q l m. inv.before q m l) (λ m. sym e ∙ f) p b a;
-    }
-
-    pub along_here : {end : ℕ} {r : Bool} → j < end → r ≡ waiting_at j fs xs os inbox qs → r ≡ true → NextFrom start end j fs xs os inbox qs
-    along_here low e f = record { low = λ b. inv.low; top = omega arith; before = inv.before; here = λ b. sym e ∙ f }
-
-    pub along_all : {end : ℕ} → end ≤ j → NextFrom start end end fs xs os inbox qs
-    along_all beyond = record { low = λ b. absurd (omega arith); top = omega arith; before = λ p a b. inv.before p a (omega arith); here = λ b. absurd (omega arith) }
+-- ---- along a row
+pub next_from : {start end : ℕ} {net : NetHeld} {st : StateHeld} (found : Option ℕ)
+    → MatchOption found ((p : ℕ) → start ≤ p → p < end → waiting_in p net st ≡ false)
+    (λ j. (start ≤ j) × (j < end) × (waiting_in j net st ≡ true) × ((p : ℕ) → start ≤ p → p < j → waiting_in p net st ≡ false))
+    → NextFrom start end (unwrap_or found end) net st
+next_from None none = record { low = λ b. absurd (omega arith); top = omega arith; before = none; here = λ b. absurd (omega arith) }
+next_from (Some j) here = record { low = λ b. here.0; top = omega (arith, here.1); before = here.3; here = λ b. here.2 }
 
 -- ---- along the rows: i is the lowest node that is live
-pub record Walking (count live i : ℕ) (fs xs os inbox qs cs : List ℕ) : Type 0 where
-  pub passed : Passed count live fs xs os inbox qs cs
-  pub lowest : FirstIn live i
+pub record Walking (count i : ℕ) (net : NetHeld) (st : StateHeld) (search : Search) : Type 0 where
+  pub passed : Passed count net st search
+  pub lowest : FirstIn search.live i
 
-module _ {h : SheetHeld} {open₀ : ℕ} {fs ss xs os inbox qs cs₀ : List ℕ} (pre : Searchable h open₀ fs ss xs os inbox qs cs₀) where
+module _ {h : SheetHeld} {net : NetHeld} {st : StateHeld} {search₀ : Search} (pre : Searchable h net st search₀) where
   -- the row of node i can be searched
-  pub row-links : {i : ℕ} → i < h.head.nodes → LinksAt (get_or ss (i + 1) 0) fs xs os inbox qs
+  pub row-links : {i : ℕ} → i < h.head.nodes → LinksIn (get_or net.rows.starts (i + 1) 0) net
   row-links {i} a j b = pre.links j (omega (arith, pre.rows.top (i + 1) (omega arith)))
 
-  module _ {live i : ℕ} {cs : List ℕ} (inv : Walking h.links live i fs xs os inbox qs cs) where
-    -- node i is in the word
-    pub rows_live : i < h.head.nodes → (i < 64) × (digit live i ≡ 1)
-    rows_live a = let low : i < 64 = omega (arith, pre.few) in (low, inv.lowest.here low)
-
+  module _ {i : ℕ} {search : Search} (inv : Walking h.links i net st search) where
     -- node i's row was searched from a start that its cursor may have passed, as far as j
-    module _ {start j : ℕ} (inside : i < h.head.nodes) (from : start ≡ get_or ss i 0 + (get_or cs i 0 - get_or ss i 0)) (next : NextFrom start (get_or ss (i + 1) 0) j fs xs os inbox qs) where
+    module _ {start j : ℕ} (inside : i < h.head.nodes) (from : start ≡ max (get_or net.rows.starts i 0) (get_or search.cursor i 0)) (next : NextFrom start (get_or net.rows.starts (i + 1) 0) j net st)
+        (size : length search.cursor ≡ 64) where
       -- no link of the row waits before j
-      row_before : (p : ℕ) → p < h.links → get_or fs p 0 ≡ i → p < j → waiting_at p fs xs os inbox qs ≡ false
+      row_before : (p : ℕ) → p < h.links → near net p ≡ i → p < j → waiting_in p net st ≡ false
       row_before p a e b = go (dec_lt p start)
         where
-          go : Dec (p < start) → waiting_at p fs xs os inbox qs ≡ false
+          go : Dec (p < start) → waiting_in p net st ≡ false
           go (yes l) =
               let r = pre.rows.found p a in
-              inv.passed.behind p a (omega (arith, r.0, ap (λ (m : ℕ). get_or ss m 0) e, ap (λ (m : ℕ). get_or cs m 0) e))
+              inv.passed.behind p a (omega (arith, r.0, ap (λ (m : ℕ). get_or net.rows.starts m 0) e, ap (λ (m : ℕ). get_or search.cursor m 0) e))
           go (no l) = next.before p (omega arith) b
 
-      behind_now : Behind h.links fs xs os inbox qs (set cs i j)
-      behind_now p a b = go (ℕ_discrete (get_or fs p 0) i)
+      behind_now : Behind h.links net st (set search.cursor i j)
+      behind_now p a b = go (ℕ_discrete (near net p) i)
         where
-          go : Dec (get_or fs p 0 ≡ i) → waiting_at p fs xs os inbox qs ≡ false
-          go (yes e) = row_before p a e (omega (arith, ap (λ (m : ℕ). get_or (set cs i j) m 0) e, get_or-set_same cs i j 0 (omega (arith, inv.passed.size, pre.few))))
-          go (no ne) = inv.passed.behind p a (omega (arith, get_or-set_other cs i (get_or fs p 0) j 0 ne))
+          go : Dec (near net p ≡ i) → waiting_in p net st ≡ false
+          go (yes e) = row_before p a e (omega (arith, ap (λ (m : ℕ). get_or (set search.cursor i j) m 0) e, get_or-set_same search.cursor i j 0 (omega (arith, pre.few))))
+          go (no ne) = inv.passed.behind p a (omega (arith, get_or-set_other search.cursor i (near net p) j 0 ne))
 
-      pub rows_more : {left i' : ℕ} → get_or ss (i + 1) 0 ≤ j → Without live i left → FirstIn left i' → Walking h.links left i' fs xs os inbox qs (set cs i j)
-      rows_more {left} end less lowest = record {
-        passed = record { size = length-set cs i j ∙ inv.passed.size; behind = behind_now; shut = λ p a b. go p a b (ℕ_discrete (get_or fs p 0) i) };
+      pub rows_more : {search' : Search} {i' : ℕ} → get_or net.rows.starts (i + 1) 0 ≤ j → search'.cursor ≡ set search.cursor i j → Without search.live i search'.live → FirstIn search'.live i' → Walking h.links i' net st search'
+      rows_more {search'} end same less lowest = record {
+        passed = record { behind = rw same behind_now; shut = λ p a b. go p a b (ℕ_discrete (near net p) i) };
         lowest = lowest;
       }
         where
-          go : (p : ℕ) → p < h.links → digit left (get_or fs p 0) ≡ 0 → Dec (get_or fs p 0 ≡ i) → waiting_at p fs xs os inbox qs ≡ false
-          go p a b (yes e) = row_before p a e (omega (arith, (pre.rows.found p a).1, ap (λ (m : ℕ). get_or ss (m + 1) 0) e))
-          go p a b (no ne) = inv.passed.shut p a (sym (less.elsewhere (get_or fs p 0) ne) ∙ b)
+          go : (p : ℕ) → p < h.links → bit_at search'.live (near net p) ≡ 0 → Dec (near net p ≡ i) → waiting_in p net st ≡ false
+          go p a b (yes e) = row_before p a e (omega (arith, (pre.rows.found p a).1, ap (λ (m : ℕ). get_or net.rows.starts (m + 1) 0) e))
+          go p a b (no ne) = inv.passed.shut p a (sym (less.elsewhere (near net p) ne) ∙ b)
 
-      pub rows-here : j < get_or ss (i + 1) 0 → Found h (record { link = j; live = live }) fs xs os inbox qs (set cs i j)
+      pub rows-here : j < get_or net.rows.starts (i + 1) 0 → Found h j net st (record search { cursor = set search.cursor i j })
       rows-here b = record {
-        lowest = record { inside = here; passes = next.here b; before = λ p l. go p l (ℕ_discrete (get_or fs p 0) i) };
-        passed = record { size = length-set cs i j ∙ inv.passed.size; behind = behind_now; shut = inv.passed.shut };
+        lowest = record { inside = here; passes = next.here b; before = λ p l. go p l (ℕ_discrete (near net p) i) };
+        passed = record { behind = behind_now; shut = inv.passed.shut };
       }
         where
           here : j < h.links
           here = omega (arith, pre.rows.top (i + 1) (omega arith))
 
-          own : get_or fs j 0 ≡ i
+          own : near net j ≡ i
           own = pre.rows.inside i j inside (omega (arith, next.low b)) b
 
-          go : (p : ℕ) → p < j → Dec (get_or fs p 0 ≡ i) → waiting_at p fs xs os inbox qs ≡ false
+          go : (p : ℕ) → p < j → Dec (near net p ≡ i) → waiting_in p net st ≡ false
           go p l (yes e) = row_before p (omega (arith, here)) e l
-          go p l (no ne) = inv.passed.shut p (omega (arith, here)) (inv.lowest.before (get_or fs p 0) (omega (arith, pre.sorted.rises p j (omega arith) here, own)))
+          go p l (no ne) = inv.passed.shut p (omega (arith, here)) (inv.lowest.before (near net p) (omega (arith, pre.sorted.rises p j (omega arith) here, own)))
 
     -- past the last node nothing waits, and something does
-    pub rows_all : {r : Spot} → h.head.nodes ≤ i → Found h r fs xs os inbox qs cs
-    rows_all end = clash pre.some-waits (inv.passed.shut pre.some pre.some_in (inv.lowest.before (get_or fs pre.some 0) (omega (arith, pre.sorted.low pre.some pre.some_in))))
+    pub rows_all : {r : ℕ} → h.head.nodes ≤ i → Found h r net st search
+    rows_all end = clash pre.some-waits (inv.passed.shut pre.some pre.some_in (inv.lowest.before (near net pre.some) (omega (arith, pre.sorted.low pre.some pre.some_in))))

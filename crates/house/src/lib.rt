@@ -1,200 +1,131 @@
 // House order: each time the lowest link whose message waits. What waits depends only on who has been heard, so one fixed word is stored for every message.
 #![tactic(auto)]
 
-ghost use Rattle.std.specs.Prelude.{◌≡◌, ◌+◌, ◌-◌, ◌^◌, ◌≤◌, ◌<◌, length};
+ghost use Rattle.std.specs.Prelude.{◌≡◌, ◌≤◌, ◌<◌, length, slice_set};
 ghost use Rattle.node.specs.Net.{Empty};
-ghost use Rattle.messages.specs.State.{LinkAt, Counted};
-ghost use Rattle.house.specs.Nodes.{digit, With, Without, FirstIn};
-ghost use Rattle.house.specs.House.{LinksAt, NextFrom, Searchable, Found, ChosenStored, GraphHeld, HouseWritten};
+ghost use Rattle.house.specs.Nodes.{With, Without, FirstIn};
+ghost use Rattle.messages.specs.State.{LinkIn, CountedIn};
+ghost use Rattle.house.specs.House.{LinksIn, NextFrom, Searchable, Found, ChosenStored, Fresh, GraphIn, HouseIn};
 
 use desk::Told;
-use messages::Quiet;
+use messages::{Quiet, StateHeld};
+use node::NetHeld;
 use sheet::SheetHeld;
 
-// Nodes that may have a message waiting are a word, live: node i is in it where its bit i is 1.
-const EVERY_NODE: u64 = 0xFFFF_FFFF_FFFF_FFFF;
-
-// A link, and the nodes that are live once it was found.
-#[derive(Clone, Copy)]
-struct Spot {
-    link: usize,
+// How far a search has come: by node, the place before which no link of its row waits; and the nodes that may have a message waiting, a
+// bit for each.
+#[derive(Drop)]
+struct Search {
+    cursor: [u16; 64],
     live: u64,
 }
 
-fn bit(i: usize) -> u64
-    requires { i < 64 }
-    ensures { result ≡ 2 ^ i }
-{
-    1u64 << (i as u32)
-}
-
-fn with(live: u64, i: usize) -> u64
-    requires { i < 64 }
-    ensures { With live i result }
-{
-    live | bit(i)
-}
-
-fn without(live: u64, i: usize) -> u64
-    requires { (i < 64) × (digit live i ≡ 1) }
-    ensures { Without live i result }
-{
-    live ^ bit(i)
-}
-
-// The lowest node that is live, or 64.
-fn first_live(live: u64) -> usize
-    ensures { FirstIn live result }
-{
-    u64::trailing_zeros(live) as usize
-}
-
-// The larger of the two.
-fn higher(a: u16, b: u16) -> usize
-    ensures { result ≡ a + (b - a) }
-{
-    if a < b { b as usize } else { a as usize }
-}
-
-// The first link from start on, and below end, whose message waits; end where none does.
-fn next_in_row(
-    start: usize,
-    end: usize,
-    from: &[u8],
-    fraction: &[u32],
-    opposite: &[u16],
-    inbox: &[u32],
-    quiet: &[u32],
-) -> usize
-    requires { LinksAt end from.now fraction.now opposite.now inbox.now quiet.now }
-    ensures { NextFrom start end result from.now fraction.now opposite.now inbox.now quiet.now }
-{
-    let mut j = start;
-    while j < end {
-        if messages::is_waiting(j, from, fraction, opposite, inbox, quiet) {
-            return j;
+impl Search {
+    // Nothing is passed yet.
+    fn new() -> Search
+        ensures { Fresh result }
+    {
+        Search {
+            cursor: [0; 64],
+            live: u64::MAX,
         }
-        j += 1;
     }
-    end
+
+    // The lowest node that is live, or 64, as the library counts zeros: a test against the nodes ends the walk in either case.
+    fn first_live(&self) -> usize
+        ensures { FirstIn self.now.live result }
+    {
+        self.live.trailing_zeros() as usize
+    }
+
+    // Node i, where nothing waits, is live no more.
+    fn shut(&mut self, i: usize)
+        requires { i < 64 }
+        ensures same { self.new.cursor ≡ self.old.cursor }
+        ensures less { Without self.old.live i self.new.live }
+    {
+        // Not `&=`: a read by itself tells the proof that the word has 64 bits.
+        self.live = self.live & !(1 << i);
+    }
+
+    // Node i's row is searched from its start again.
+    fn open(&mut self, i: usize)
+        requires { i < 64 }
+        ensures back { self.new.cursor ≡ slice_set self.old.cursor i 0 }
+        ensures more { With self.old.live i self.new.live }
+    {
+        self.cursor[i] = 0;
+        self.live |= 1 << i;
+    }
+}
+
+// The first link from start on, and below end, whose message waits; end where none does, which is where the cursor then goes.
+fn next_in_row(start: usize, end: usize, net: &NetHeld, state: &StateHeld) -> usize
+    requires { LinksIn end net.now }
+    ensures { NextFrom start end result net.now state.now }
+{
+    (start..end)
+        .find(|&j| messages::is_waiting(j, net, state))
+        .unwrap_or(end)
 }
 
 // The lowest link whose message waits; one does, so the loop ends at it. A row is searched from where its last search stopped, and a node
 // where nothing waits is live no more.
-fn find_lowest(
-    h: SheetHeld,
-    live: u64,
-    from: &[u8],
-    starts: &[u16],
-    fraction: &[u32],
-    opposite: &[u16],
-    inbox: &[u32],
-    quiet: &[u32],
-    cursor: &mut [u16],
-) -> Spot
-    requires { Searchable h live from.now starts.now fraction.now opposite.now inbox.now quiet.now cursor.old }
-    ensures { Found h result from.now fraction.now opposite.now inbox.now quiet.now cursor.new }
+fn find_lowest(h: SheetHeld, net: &NetHeld, state: &StateHeld, search: &mut Search) -> usize
+    requires { Searchable h net.now state.now search.old }
+    ensures { Found h result net.now state.now search.new }
 {
-    let nodes = h.head.nodes as usize;
-    let mut left = live;
-    let mut i = first_live(left);
+    let nodes = usize::from(h.head.nodes);
+    let mut i = search.first_live();
+    // A `while`: it walks a set that shrinks under it, and counts nothing.
     while i < nodes {
-        let end = starts[i + 1] as usize;
-        let j = next_in_row(
-            higher(starts[i], cursor[i]),
-            end,
-            from,
-            fraction,
-            opposite,
-            inbox,
-            quiet,
-        );
-        cursor[i] = j as u16;
+        let start = net.rows.starts[i].max(search.cursor[i]);
+        let end = usize::from(net.rows.starts[i + 1]);
+        let j = next_in_row(usize::from(start), end, net, state);
+        search.cursor[i] = j as u16;
         if j < end {
-            return Spot {
-                link: j,
-                live: left,
-            };
+            return j;
         }
-        left = without(left, i);
-        i = first_live(left);
+        search.shut(i);
+        i = search.first_live();
     }
-    Spot {
-        link: h.links,
-        live: left,
-    }
+    h.links
 }
 
-// Stores the word on link j, and gives the nodes that are live then. Only its far node's status can change; where it does, that node's row
-// is searched from its start again. No message is delivered, so there is no tally to amend.
-fn store_chosen(
-    j: usize,
-    live: u64,
-    from: &[u8],
-    fraction: &[u32],
-    opposite: &[u16],
-    inbox: &mut [u32],
-    quiet: &mut [u32],
-    cursor: &mut [u16],
-) -> u64
-    requires { LinkAt j from.now fraction.now opposite.now inbox.old quiet.old × Counted j from.now fraction.now opposite.now inbox.old quiet.old × (length cursor.old ≡ 64) }
-    ensures { ChosenStored j live from.now fraction.now opposite.now inbox.old quiet.old cursor.old inbox.new quiet.new cursor.new result }
+// Stores the word on link j. Only its far node's status can change; where it does, that node's row is searched from its start again.
+// No message is delivered, so there is no tally to amend.
+fn store_chosen(j: usize, net: &NetHeld, state: &mut StateHeld, search: &mut Search)
+    requires link { LinkIn j net.now }
+    requires counted { CountedIn j net.now state.old }
+    ensures { ChosenStored j net.now state.old search.old state.new search.new }
 {
-    let p = opposite[j] as usize;
-    let far = from[p] as usize;
-    let before = messages::status_of(Quiet(quiet[far]));
-    messages::store(j, Told(1), from, fraction, opposite, inbox, quiet);
-    let after = messages::status_of(Quiet(quiet[far]));
-    if before == after {
-        return live;
+    let p = usize::from(net.opposite[j]);
+    let far = usize::from(net.columns.from[p]);
+    let before = messages::status_of(Quiet(state.quiet[far]));
+    messages::store(j, Told(1), net, state);
+    let after = messages::status_of(Quiet(state.quiet[far]));
+    if before != after {
+        search.open(far);
     }
-    cursor[far] = 0;
-    with(live, far)
 }
 
 // Writes the house order into the front of out: a number for each link.
-pub fn write_house(
-    h: SheetHeld,
-    from: &[u8],
-    starts: &[u16],
-    flow_starts: &[u16],
-    fraction: &[u32],
-    opposite: &[u16],
-    inbox: &mut [u32],
-    quiet: &mut [u32],
-    out: &mut [u16],
-)
-    requires { GraphHeld h from.now starts.now flow_starts.now fraction.now opposite.now × Empty inbox.old × (length quiet.old ≡ 64) × (h.links ≤ length out.old) }
-    ensures { HouseWritten h from.now starts.now fraction.now opposite.now out.old out.new }
+pub fn write_house(h: SheetHeld, net: &NetHeld, state: &mut StateHeld, out: &mut [u16])
+    requires graph { GraphIn h net.now }
+    requires empty { Empty state.old.inbox }
+    requires room { h.links ≤ length out.old }
+    ensures { HouseIn h net.now out.old out.new }
 {
-    let count = h.links;
-    let mut cursor = [0u16; 64];
-    messages::begin(h.head.nodes, starts, flow_starts, quiet);
-    let mut live = EVERY_NODE;
-    let mut k: usize = 0;
-    while k < count {
-        let s = find_lowest(
-            h,
-            live,
-            from,
-            starts,
-            fraction,
-            opposite,
-            inbox,
-            quiet,
-            &mut cursor,
-        );
-        out[k] = s.link as u16;
-        live = store_chosen(
-            s.link,
-            s.live,
-            from,
-            fraction,
-            opposite,
-            inbox,
-            quiet,
-            &mut cursor,
-        );
-        k += 1;
+    messages::begin(
+        h.head.nodes,
+        &net.rows.starts,
+        &net.rows.flow_starts,
+        &mut state.quiet,
+    );
+    let mut search = Search::new();
+    for k in 0..h.links {
+        let j = find_lowest(h, net, state, &mut search);
+        out[k] = j as u16;
+        store_chosen(j, net, state, &mut search);
     }
 }

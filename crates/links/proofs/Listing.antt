@@ -1,23 +1,21 @@
--- Laws of a list of links: scans over it, the row of a node, and the list that four slices give.
-use Prim.Native.Nat.{ℕ, zero, suc, ◌+◌, ◌-◌, ◌≤◌, ◌<◌}
+-- Laws of a list of links: the row of a node, the opposite of a link, and the list that four lists of numbers give.
+use Prim.Native.Nat.{ℕ, ◌+◌, ◌-◌, ◌≤◌, ◌<◌}
 use native.Mathlib.Omega.{arith}
-use native.Mathlib.Numerals.{add-one}
-use native.Mathlib.Decide.{dec_lt}
-use mathlib.Core.Path.{◌≡◌, refl, sym, ap, ap₂, ◌∙◌}
-use mathlib.Core.Bool.{Bool, true, false, cond}
-use mathlib.Core.List.{List, [], ◌∷◌}
+use mathlib.Core.Path.{◌≡◌, sym, ap, ap₂, ◌∙◌}
+use mathlib.Core.Bool.{true, false}
+use mathlib.Core.List.{List}
 use lib.Dec.{ltb}
-use lib.ListN.{length, get_or, take, drop, set, length-set, length-map, drop_of_length-le, get_or-map}
-use lib.Seq.{drop-cons, get_or-set_same, get_or-set_other, get_or-take, length-take-le}
+use lib.ListN.{length, get_or, take, length-map, get_or-map}
+use lib.Seq.{get_or-take, length-take-le}
 use borrow.Author.Tests.{ltb-true, ltb-false}
+use Rattle.std.proofs.lemmas.List.Sums.{prefix_len-le-length, prefix_len_passes, prefix_len_stops}
 use Rattle.links.specs.declared.Link.{Link}
-use Rattle.links.specs.declared.RowRange.{RowRange}
-use Rattle.links.specs.List.{link_said, no_link, record_of, link_at, row_start, row_range, froms, fractions, turns_at, Listed}
+use Rattle.links.specs.List.{link_said, no_link, record_of, link_at, row_start, froms, fractions, turns_at, Listed}
 use Rattle.links.specs.Opposites.{RisesTo, runs}
-use Rattle.rules.specs.Lists.{below, nowhere, first}
+use Rattle.rules.specs.Lists.{below, nowhere, at, first}
 use Rattle.rules.specs.Sheet.{opposite}
 use Rattle.rules.proofs.Tests.{refuted}
-use Rattle.rules.proofs.First.{Searched, searched_none, searched_pass, searched_all, first-same}
+use Rattle.rules.proofs.First.{Searched, searched_none, searched_here, searched_more, searched_pass, searched_all, first-same}
 use Rattle.rules.proofs.Local.{opposite-ends}
 
 -- ---- near nodes and fractions by their place
@@ -28,101 +26,47 @@ pub fraction-at : (ls : List Link) (j : ℕ) → get_or (fractions ls) j 0 ≡ (
 fraction-at ls j = get_or-map (λ (l : Link). l.fraction.0) ls j no_link
 
 -- ---- the first link from node i or a higher one
-module _ (ls : List Link) (k : ℕ) where
-  pub start-here : (i : ℕ) → k < length ls → ltb (link_at ls k).from i ≡ false → row_start i (drop k ls) ≡ 0
-  unfolding row_start
-  start-here i h e = rw (drop-cons ls k no_link) (rw e)
+module _ (i : ℕ) (ls : List Link) where
+  pub start-within : row_start i ls ≤ length ls
+  start-within = prefix_len-le-length (λ l. ltb l.from i) ls
 
-  pub start_past : (i : ℕ) → k < length ls → ltb (link_at ls k).from i ≡ true → row_start i (drop k ls) ≡ suc (row_start i (drop (k + 1) ls))
-  unfolding row_start
-  start_past i h e = rw (add-one, drop-cons ls k no_link) (rw e)
+  pub start-below : (k : ℕ) → k < row_start i ls → (link_at ls k).from < i
+  start-below k h = ltb-true (link_at ls k).from i (prefix_len_passes (λ l. ltb l.from i) ls k no_link h)
 
-  pub start_end : (i : ℕ) → length ls ≤ k → row_start i (drop k ls) ≡ 0
-  unfolding row_start
-  start_end i h = rw (drop_of_length-le ls h)
-
-pub start-within : (i : ℕ) (ls : List Link) → row_start i ls ≤ length ls
-unfolding row_start
-start-within i [] = omega arith
-start-within i (l ∷ ls) = go (ltb l.from i) (start-within i ls)
-  where
-    go : (b : Bool) {m n : ℕ} → m ≤ n → cond b (suc m) 0 ≤ suc n
-    go true h = omega arith
-    go false h = omega arith
-
-pub start-below : (i : ℕ) (ls : List Link) (k : ℕ) → k < row_start i ls → (link_at ls k).from < i
-unfolding row_start
-start-below i [] k h = absurd (omega arith)
-start-below i (l ∷ ls) k h = go (ltb l.from i) refl k h (start-below i ls)
-  where
-    go : (b : Bool) → ltb l.from i ≡ b → (k : ℕ) → k < cond b (suc (row_start i ls)) 0 → ((k : ℕ) → k < row_start i ls → (link_at ls k).from < i)
-        → (link_at (l ∷ ls) k).from < i
-    go true e zero h ih = ltb-true l.from i e
-    go true e (suc k) h ih = ih k (omega arith)
-    go false e k h ih = absurd (omega arith)
-
-pub start-stops : (i : ℕ) (ls : List Link) → row_start i ls < length ls → i ≤ (link_at ls (row_start i ls)).from
-unfolding row_start
-start-stops i [] h = absurd (omega arith)
-start-stops i (l ∷ ls) h = go (ltb l.from i) refl h (start-stops i ls)
-  where
-    go : (b : Bool) → ltb l.from i ≡ b → cond b (suc (row_start i ls)) 0 < suc (length ls) → (row_start i ls < length ls → i ≤ (link_at ls (row_start i ls)).from)
-        → i ≤ (link_at (l ∷ ls) (cond b (suc (row_start i ls)) 0)).from
-    go true e h ih = ih (omega arith)
-    go false e h ih = omega (arith, ltb-false l.from i e)
+  pub start-stops : row_start i ls < length ls → i ≤ (link_at ls (row_start i ls)).from
+  start-stops h = ltb-false (link_at ls (row_start i ls)).from i (prefix_len_stops (λ l. ltb l.from i) ls no_link h)
 
 pub start_above : (i : ℕ) (ls : List Link) → RisesTo (length ls) (froms ls) → (k : ℕ) → row_start i ls ≤ k → k < length ls → i ≤ (link_at ls k).from
 start_above i ls up k a b = omega (arith, start-stops i ls (omega arith), up (row_start i ls) k a b, from_at ls (row_start i ls), from_at ls k)
 
--- ---- the opposite of link j stands in the row of its far node: l is that link, and row the row
-module _ (ls : List Link) (j : ℕ) {l : Link} {t : ℕ} {row : RowRange} (is : l ≡ link_at ls j) (to : t ≡ l.to) (at_row : row ≡ row_range t ls) where
+-- ---- the opposite of link j stands in the row of its far node
+module _ (ls : List Link) (j : ℕ) where
   abbrev far : ℕ
   far = (link_at ls j).to
-
-  far_is : t ≡ far
-  far_is = to ∙ ap (λ (m : Link). m.to) is
-
-  start_is : row.start ≡ row_start far ls
-  start_is = ap (λ (r : RowRange). r.start) at_row ∙ ap (λ (i : ℕ). row_start i ls) far_is
-
-  end_is : row.end ≡ row_start (far + 1) ls
-  end_is = ap (λ (r : RowRange). r.end) at_row ∙ ap (λ (i : ℕ). row_start (i + 1) ls) far_is
 
   elsewhere : (k : ℕ) → ((link_at ls k).from ≡ far → ⊥) → turns_at ls j k ≡ false
   elsewhere k ne = refuted (turns_at ls j k) (λ e. ne (opposite-ends (link_said (link_at ls j)) (link_said (link_at ls k)) e).0)
 
-  pub look_from : Searched (turns_at ls j) (length ls) row.start
+  pub look_from : Searched (turns_at ls j) (length ls) (row_start far ls)
   look_from =
-      let z : 0 + row_start far ls ≡ row.start = omega (arith, start_is) in
+      let z : 0 + row_start far ls ≡ row_start far ls = omega arith in
       rw z at (searched_pass {p = turns_at ls j} {n = length ls} {a = 0} searched_none (row_start far ls) (omega (arith, start-within far ls)) (λ k a b. elsewhere k (λ e. omega (arith, start-below far ls k (omega arith)))))
 
-  pub look_inside : {k : ℕ} → k < row.end → k < length ls
-  look_inside h = omega (arith, end_is, start-within (far + 1) ls)
+  look_inside : {k : ℕ} → k < row_start (far + 1) ls → k < length ls
+  look_inside h = omega (arith, start-within (far + 1) ls)
 
-  pub look_turn : (k : ℕ) {m : Link} {b c : Bool} → m ≡ link_at ls k → b ≡ opposite (link_said l) (link_said m) → b ≡ c → turns_at ls j k ≡ c
-  look_turn k e said test = sym (said ∙ ap₂ (λ (x y : Link). opposite (link_said x) (link_said y)) is e) ∙ test
+  pub look_here : {k m : ℕ} → Searched (turns_at ls j) (length ls) k → m ≡ k → k < row_start (far + 1) ls → turns_at ls j m ≡ true → at m ≡ first (turns_at ls j) (below (length ls))
+  look_here s e h t = rw e (searched_here s (look_inside h) (rw e at t))
 
-  pub look_rest : {k : ℕ} → RisesTo (length ls) (froms ls) → Searched (turns_at ls j) (length ls) k → row.end ≤ k → nowhere ≡ first (turns_at ls j) (below (length ls))
+  pub look_more : {k m n : ℕ} → Searched (turns_at ls j) (length ls) k → m ≡ k → n ≡ k + 1 → k < row_start (far + 1) ls → turns_at ls j m ≡ false → Searched (turns_at ls j) (length ls) n
+  look_more s e f h t = rw f (searched_more s (look_inside h) (rw e at t))
+
+  pub look_rest : {k : ℕ} → RisesTo (length ls) (froms ls) → Searched (turns_at ls j) (length ls) k → row_start (far + 1) ls ≤ k → nowhere ≡ first (turns_at ls j) (below (length ls))
   look_rest {k} up s h =
       let z : k + (length ls - k) ≡ length ls = omega (arith, s.within) in
-      searched_all (rw z at (searched_pass s (length ls - k) (omega arith) (λ m a b. elsewhere m (λ e. omega (arith, end_is, start_above (far + 1) ls up m (omega (arith, end_is)) (omega arith)))))) (omega arith)
+      searched_all (rw z at (searched_pass s (length ls - k) (omega arith) (λ m a b. elsewhere m (λ e. omega (arith, start_above (far + 1) ls up m (omega arith) (omega arith)))))) (omega arith)
 
--- ---- the list that four slices give
-pub listed_none : {fs ts ds xs : List ℕ} {r : List Link} → length r ≡ 512 → Listed 0 fs ts ds xs r
-listed_none h = record { size = h; each = λ j l. absurd (omega arith) }
-
-module _ {fs ts ds xs : List ℕ} where
-  pub listed_more : {r : List Link} {j : ℕ} {l : Link} → Listed j fs ts ds xs r → j < 512 → l ≡ record_of (get_or fs j 0) (get_or ts j 0) (get_or ds j 0) (get_or xs j 0) → Listed (j + 1) fs ts ds xs (set r j l)
-  listed_more {r} {j} {l} so room e = record { size = length-set r j l ∙ so.size; each = λ i h. go i h (dec_lt i j) }
-    where
-      go : (i : ℕ) → i < j + 1 → Dec (i < j) → link_at (set r j l) i ≡ record_of (get_or fs i 0) (get_or ts i 0) (get_or ds i 0) (get_or xs i 0)
-      go i h (yes b) = get_or-set_other r j i l no_link (λ z. omega arith) ∙ so.each i b
-      go i h (no b) = let z : i ≡ j = omega arith in rw z (get_or-set_same r j l no_link (omega (arith, so.size)) ∙ e)
-
-pub listed_all : {count j : ℕ} {fs ts ds xs : List ℕ} {r : List Link} → Listed j fs ts ds xs r → count ≤ j → Listed count fs ts ds xs r
-listed_all so h = record { size = so.size; each = λ i l. so.each i (omega arith) }
-
--- ---- the opposite in that list is the one in the slices
+-- ---- the opposite in the list that four lists give is the one that those say
 module _ {n : ℕ} {fs ts ds xs : List ℕ} {r : List Link} (so : Listed n fs ts ds xs r) (few : n ≤ 512) where
   abbrev ls : List Link
   ls = take n r

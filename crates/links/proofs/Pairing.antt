@@ -5,7 +5,7 @@ use mathlib.Core.Bool.{Bool, true, not}
 use mathlib.Core.List.{List}
 use native.Mathlib.Omega.{arith}
 use native.Mathlib.Decide.{dec_lt}
-use lib.ListN.{length, get_or, set, length-set}
+use lib.ListN.{length, get_or, take, set, length-set}
 use lib.Seq.{get_or-set_same, get_or-set_other}
 use lib.Dec.{eqb}
 use borrow.Author.Tests.{eqb-true}
@@ -14,10 +14,13 @@ use Rattle.rules.specs.Judge.{paired}
 use Rattle.rules.specs.Sheet.{opposite}
 use Rattle.rules.proofs.Tests.{and_gives}
 use Rattle.rules.proofs.Lists.{exists_holds, exists-map, below_in}
-use Rattle.rules.proofs.First.{first-map, first_eq, first_some, first-none, none_below, lowest-below, Searched, searched_none, searched_here, searched_more}
+use Rattle.rules.proofs.First.{first-map, first_eq, first_some, first-none, none_below, lowest-below, Searched, searched_here, searched_more}
 use Rattle.sheet.specs.Held.{held_at, held, found_said}
-use Rattle.sheet.specs.declared.Found.{Found}
+use Rattle.std.specs.Prelude.{Option, Some, None}
+use Rattle.links.specs.declared.Link.{Link}
+use Rattle.links.specs.List.{turns_at, Listed}
 use Rattle.links.specs.Opposites.{runs, Paired}
+use Rattle.links.proofs.Listing.{front_first}
 
 module _ (n : ℕ) (fs ts : List ℕ) where
   -- link i is the opposite of link j
@@ -41,9 +44,6 @@ pub record Met (n : ℕ) (fs ts os : List ℕ) (j : ℕ) : Type 0 where
   pub turned : (i : ℕ) → i < j → turns n fs ts i (get_or os i 0) ≡ true
 
 module _ {n : ℕ} {fs ts os : List ℕ} where
-  pub met_none : length os ≡ 512 → Met n fs ts os 0
-  met_none h = record { within = omega arith; long = h; low = λ i l. absurd (omega arith); turned = λ i l. absurd (omega arith) }
-
   module _ {j : ℕ} (m : Met n fs ts os j) where
     pub met_more : {k : ℕ} → n ≤ 512 → j < n → k < n → turns n fs ts j k ≡ true → Met n fs ts (set os j k) (j + 1)
     met_more {k} few l b e = record {
@@ -60,7 +60,7 @@ module _ {n : ℕ} {fs ts os : List ℕ} where
             let room : j < length os = omega (arith, m.long) in
             rw (z, get_or-set_same os j k 0 room) p
 
-    pub met_all : n ≤ j → Paired Found.Nowhere n fs ts os
+    pub met_all : n ≤ j → Paired None n fs ts os
     met_all h = record {
       said = λ ls xs. sym (lonely_is n fs ts ls xs ∙ (none_below (lonely n fs ts) n).1 (λ i l. ap not (some i l)));
       told = λ q. record { low = λ i l. m.low i (omega arith); from = λ i l. (ends i l).0; to = λ i l. (ends i l).1 };
@@ -82,29 +82,28 @@ pub record Pairing (n : ℕ) (fs ts os : List ℕ) (j : ℕ) : Type 0 where
   pub met : Met n fs ts os j
 
 module _ {n : ℕ} {fs ts os : List ℕ} where
-  pub pairing_none : length os ≡ 512 → Pairing n fs ts os 0
-  pairing_none h = record { search = searched_none; met = met_none h }
-
-  module _ {j : ℕ} (h : Pairing n fs ts os j) {r : Found} (q : found_said r ≡ first (turns n fs ts j) (below n)) (l : j < n) where
-    pub pairing_alone : r ≡ Found.Nowhere → Paired (Found.At j) n fs ts os
+  -- r is what the list of the links, list, answers of link j
+  module _ {ds xs : List ℕ} {list : List Link} (so : Listed n fs ts ds xs list) (few : n ≤ 512) {j : ℕ} (h : Pairing n fs ts os j)
+      {r : Option ℕ} (q : found_said r ≡ first (turns_at (take n list) j) (below (length (take n list)))) (l : j < n) where
+    pub pairing_alone : r ≡ None → Paired (Some j) n fs ts os
     pairing_alone e = record {
-      said = λ ls xs. searched_here h.search l (ap not (first-none (turns n fs ts j) (below n) (sym q ∙ ap found_said e))) ∙ sym (lonely_is n fs ts ls xs);
+      said = λ ls xs. searched_here h.search l (ap not (first-none (turns n fs ts j) (below n) (sym (q ∙ front_first so few l) ∙ ap found_said e))) ∙ sym (lonely_is n fs ts ls xs);
       told = λ z. let w : ◌≡◌ {A = ℕ} 0 1 = cc in absurd (omega arith);
       size = h.met.long;
     }
 
-    module _ {k : ℕ} (e : r ≡ Found.At k) where
+    module _ {k : ℕ} (e : r ≡ Some k) where
       some : first (turns n fs ts j) (below n) ≡ at k
-      some = sym q ∙ ap found_said e
+      some = sym (q ∙ front_first so few l) ∙ ap found_said e
 
       pub pairing_low : k < n
       pairing_low = ((lowest-below (turns n fs ts j) n k).0 some).inside
 
-      pub pairing_more : n ≤ 512 → Pairing n fs ts (set os j k) (j + 1)
-      pairing_more few = record {
+      pub pairing_more : Pairing n fs ts (set os j k) (j + 1)
+      pairing_more = record {
         search = searched_more h.search l (ap not (first_some (turns n fs ts j) (below n) some));
         met = met_more h.met few l pairing_low ((lowest-below (turns n fs ts j) n k).0 some).passes;
       }
 
-  pub pairing_all : {j : ℕ} → Pairing n fs ts os j → n ≤ j → Paired Found.Nowhere n fs ts os
+  pub pairing_all : {j : ℕ} → Pairing n fs ts os j → n ≤ j → Paired None n fs ts os
   pairing_all h l = met_all h.met l

@@ -3,7 +3,7 @@ use Rattle.std.specs.Prelude.{ℕ, ◌≤◌, ◌<◌, ◌≡◌, Bool, not, ◌
 use Rattle.rules.specs.Lists.{nowhere, first}
 use Rattle.rules.specs.Judge.{paired}
 use Rattle.sheet.specs.Held.{held, found_said}
-use Rattle.sheet.specs.declared.Found.{Found}
+use Rattle.std.specs.Prelude.{Option}
 
 -- the first of these links rise by from
 abbrev pub RisesTo : ℕ → List ℕ → Type 0
@@ -20,7 +20,7 @@ abbrev pub runs : List ℕ → List ℕ → ℕ → ℕ → ℕ → Bool
 runs fs ts a z i = eqb (get_or fs i 0) a && eqb (get_or ts i 0) z
 
 -- 6's place, in which the other lists play no part; where there is none, each link's opposite is told
-pub record Paired (r : Found) (count : ℕ) (fs ts os : List ℕ) : Type 0 where
+pub record Paired (r : Option ℕ) (count : ℕ) (fs ts os : List ℕ) : Type 0 where
   pub said : (ls xs : List ℕ) → found_said r ≡ first (λ l. not (paired (held count fs ts ls xs) l)) (held count fs ts ls xs)
   pub told : found_said r ≡ nowhere → Opposites count fs ts os
   pub size : length os ≡ 512

@@ -1,19 +1,19 @@
 // The links of a sheet as one list of records, and each link's opposite.
-// A list is lent as `&[Link]`. What is lent one copies a record whole and passes it on; what looks into a record takes it by value.
 #![tactic(auto)]
 
-ghost use Rattle.std.specs.Prelude.{◌≡◌, true, ◌&&◌, ℕ, ◌≤◌, ◌<◌, length, get_or, ltb, eqb};
+ghost use Rattle.std.specs.Prelude.{◌≡◌, true, ◌&&◌, ℕ, ◌≤◌, ◌<◌, length, get_or, eqb};
 ghost use Rattle.rules.specs.Lists.{below, first};
 ghost use Rattle.rules.specs.Sheet.{opposite};
 ghost use Rattle.sheet.specs.Held.{found_said};
-ghost use Rattle.links.specs.List.{link_said, record_of, no_link, link_at, froms, row_start, row_range, turns_at, Listed};
+ghost use Rattle.links.specs.List.{link_said, link_at, froms, row_start, row_range, turns_at, ListedIn};
 ghost use Rattle.links.specs.Opposites.{RisesTo, Paired};
 
 use numbers::Fraction;
-use sheet::Found;
+use sheet::{Columns, SheetHeld};
+use std::ops::Range;
 
 // A link's record. Its kind, which is 3, makes it eight whole bytes: a list with a byte to spare in each is cleared slowly.
-#[derive(Clone, Copy)]
+#[derive(Clone, Copy, PartialEq, Eq, Debug)]
 pub struct Link {
     pub kind: u8,
     pub from: u8,
@@ -22,18 +22,23 @@ pub struct Link {
     pub fraction: Fraction,
 }
 
-// ---- A record by value.
+impl Link {
+    // What stands where there is no link.
+    const NONE: Link = Link {
+        kind: 0,
+        from: 0,
+        to: 0,
+        load: 0,
+        fraction: Fraction(0),
+    };
+}
+
+// ---- What the crates above read of a link: the list is read by a few thin functions (docs/DECISIONS.md).
 
 pub fn from_of(l: Link) -> u8
     ensures { result ≡ l.from }
 {
     l.from
-}
-
-fn to_of(l: Link) -> u8
-    ensures { result ≡ l.to }
-{
-    l.to
 }
 
 pub fn fraction_of(l: Link) -> Fraction
@@ -42,42 +47,18 @@ pub fn fraction_of(l: Link) -> Fraction
     l.fraction
 }
 
-fn record_of(from: u8, to: u8, load: u8, fraction: Fraction) -> Link
-    ensures { result ≡ record_of from to load fraction.0 }
+pub fn link_at(links: &[Link], j: usize) -> Link
+    requires { j < length links.now }
+    ensures { result ≡ link_at links.now j }
 {
-    Link {
-        kind: 3,
-        from,
-        to,
-        load,
-        fraction,
-    }
-}
-
-// What stands where there is no link.
-fn no_link() -> Link
-    ensures { result ≡ no_link }
-{
-    Link {
-        kind: 0,
-        from: 0,
-        to: 0,
-        load: 0,
-        fraction: Fraction(0),
-    }
-}
-
-fn is_below(l: Link, i: u16) -> bool
-    ensures { result ≡ ltb l.from i }
-{
-    (l.from as u16) < i
+    links[j]
 }
 
 // Does a link that runs from one node to another run from node a to node z?
 fn is_between(from: u8, to: u8, a: u8, z: u8) -> bool
     ensures { result ≡ (eqb from a && eqb to z) }
 {
-    if from == a { to == z } else { false }
+    from == a && to == z
 }
 
 // Is m the opposite of l?
@@ -89,164 +70,113 @@ fn is_opposite(l: Link, m: Link) -> bool
 
 // ---- The list.
 
-pub fn link_at(links: &[Link], j: usize) -> Link
-    requires { j < length links.now }
-    ensures { result ≡ link_at links.now j }
-{
-    links[j]
-}
-
 // The first place of a link from node i or a higher one; the list's length where there is none.
 fn row_start(links: &[Link], i: u16) -> usize
     ensures { result ≡ row_start i links.now }
 {
-    let mut k: usize = 0;
-    while k < links.len() {
-        if !is_below(links[k], i) {
-            return k;
-        }
-        k += 1;
-    }
-    k
-}
-
-// Where a row begins, and where it ends.
-#[derive(Clone, Copy)]
-pub struct RowRange {
-    pub start: usize,
-    pub end: usize,
+    links.iter().take_while(|l| u16::from(l.from) < i).count()
 }
 
 // Node i's row.
-pub fn row_of(links: &[Link], i: u8) -> RowRange
+pub fn row_of(links: &[Link], i: u8) -> Range<usize>
     ensures { result ≡ row_range i links.now }
 {
-    let n = i as u16;
-    let start = row_start(links, n);
-    let end = row_start(links, n + 1);
-    RowRange { start, end }
+    let n = u16::from(i);
+    row_start(links, n)..row_start(links, n + 1)
 }
 
 // The place of link j's opposite, where it is present: it is looked for in the row of the far node.
-pub fn opposite_of(links: &[Link], j: usize) -> Found
-    requires { (j < length links.now) × RisesTo (length links.now) (froms links.now) }
+pub fn opposite_of(links: &[Link], j: usize) -> Option<usize>
+    requires inside { j < length links.now }
+    requires rising { RisesTo (length links.now) (froms links.now) }
     ensures { found_said result ≡ first (turns_at links.now j) (below (length links.now)) }
 {
-    let l = link_at(links, j);
-    let row = row_of(links, to_of(l));
-    let mut k = row.start;
-    while k < row.end {
-        if is_opposite(l, link_at(links, k)) {
-            return Found::At(k);
+    let l = links[j];
+    for k in row_of(links, l.to) {
+        if is_opposite(l, links[k]) {
+            return Some(k);
         }
-        k += 1;
     }
-    Found::Nowhere
+    None
 }
 
-// The list of the links that stand in four slices.
-pub fn list(count: usize, from: &[u8], to: &[u8], load: &[u8], fraction: &[u32]) -> [Link; 512]
-    requires { (count ≤ 512) × (length from.now ≡ 512) × (length to.now ≡ 512) × (length load.now ≡ 512) × (length fraction.now ≡ 512) }
-    ensures { Listed count from.now to.now load.now fraction.now result }
+// The list of the links that stand in the columns.
+pub fn list(count: usize, columns: &Columns) -> [Link; 512]
+    requires { count ≤ 512 }
+    ensures { ListedIn count columns.now result }
 {
-    let mut links = [no_link(); 512];
-    let mut j: usize = 0;
-    while j < count {
-        links[j] = record_of(from[j], to[j], load[j], Fraction(fraction[j]));
-        j += 1;
+    let mut links = [Link::NONE; 512];
+    for j in 0..count {
+        links[j] = Link {
+            kind: 3,
+            from: columns.from[j],
+            to: columns.to[j],
+            load: columns.load[j],
+            fraction: Fraction(columns.fraction[j]),
+        };
     }
     links
 }
 
 // ---- Opposites.
 
-// Each cursor starts where its node's row does.
-fn copy_starts(n: u8, starts: &[u16], cursor: &mut [u16])
-    requires { (n ≤ 64) × (length starts.now ≡ 65) × (length cursor.old ≡ 64) }
-{
-    let mut i: usize = 0;
-    while i < n as usize {
-        cursor[i] = starts[i];
-        i += 1;
-    }
-}
-
 // Since links rise by (from, to), the links into a node come in the order of the links out of it.
-// So a cursor in each row guesses the opposite, and what is guessed is tested.
+// So a cursor in each row, which starts where the row does, guesses the opposite, and what is guessed is tested.
 fn meet_opposites(
     count: usize,
-    from: &[u8],
-    to: &[u8],
-    cursor: &mut [u16],
-    opposite: &mut [u16],
+    starts: &[u16; 65],
+    columns: &Columns,
+    opposite: &mut [u16; 512],
 ) -> bool
-    requires { (count ≤ 512) × (length from.now ≡ 512) × (length to.now ≡ 512) × (length cursor.old ≡ 64) × (length opposite.old ≡ 512) × ((j : ℕ) → j < count → get_or to.now j 0 < 64) }
-    ensures { result ≡ true → Paired Found.Nowhere count from.now to.now opposite.new }
+    requires few { count ≤ 512 }
+    requires nodes { (j : ℕ) → j < count → get_or columns.now.to j 0 < 64 }
+    ensures { result ≡ true → Paired None count columns.now.from columns.now.to opposite.new }
 {
-    let mut j: usize = 0;
-    while j < count {
-        let b = to[j] as usize;
-        let c = cursor[b] as usize;
-        if count <= c {
-            return false;
-        }
-        if !is_between(from[c], to[c], to[j], from[j]) {
+    let Columns { from, to, .. } = columns;
+    let mut cursor = *starts;
+    for j in 0..count {
+        let b = usize::from(to[j]);
+        let c = usize::from(cursor[b]);
+        if count <= c || !is_between(from[c], to[c], to[j], from[j]) {
             return false;
         }
         opposite[j] = c as u16;
         cursor[b] = (c + 1) as u16;
-        j += 1;
     }
     true
 }
 
 // Looks every opposite up in the list: slow, and exact for sheets that the cursors do not get through.
-fn search_opposites(
-    count: usize,
-    from: &[u8],
-    to: &[u8],
-    load: &[u8],
-    fraction: &[u32],
-    opposite: &mut [u16],
-) -> Found
-    requires { (count ≤ 512) × (length from.now ≡ 512) × (length to.now ≡ 512) × (length load.now ≡ 512) × (length fraction.now ≡ 512) × (length opposite.old ≡ 512) × RisesTo count from.now }
-    ensures { Paired result count from.now to.now opposite.new }
+fn search_opposites(count: usize, columns: &Columns, opposite: &mut [u16; 512]) -> Option<usize>
+    requires few { count ≤ 512 }
+    requires rising { RisesTo count columns.now.from }
+    ensures { Paired result count columns.now.from columns.now.to opposite.new }
 {
-    let links = list(count, from, to, load, fraction);
-    let mut j: usize = 0;
-    while j < count {
-        let twin = opposite_of(&links[..count], j);
-        match twin {
-            Found::Nowhere => {
-                return Found::At(j);
-            }
-            Found::At(k) => {
-                opposite[j] = k as u16;
-                j += 1;
-            }
+    let links = list(count, columns);
+    for j in 0..count {
+        match opposite_of(&links[..count], j) {
+            None => return Some(j),
+            Some(k) => opposite[j] = k as u16,
         }
     }
-    Found::Nowhere
+    None
 }
 
 // Writes for each link the number of its opposite; answers the first link that has none (6).
 pub fn pair_links(
-    n: u8,
-    count: usize,
-    starts: &[u16],
-    from: &[u8],
-    to: &[u8],
-    load: &[u8],
-    fraction: &[u32],
-    opposite: &mut [u16],
-) -> Found
-    requires { (n ≤ 64) × (count ≤ 512) × (length starts.now ≡ 65) × (length from.now ≡ 512) × (length to.now ≡ 512) × (length load.now ≡ 512) × (length fraction.now ≡ 512) × (length opposite.old ≡ 512) × RisesTo count from.now × ((j : ℕ) → j < count → get_or to.now j 0 < n) }
-    ensures { Paired result count from.now to.now opposite.new }
+    h: SheetHeld,
+    starts: &[u16; 65],
+    columns: &Columns,
+    opposite: &mut [u16; 512],
+) -> Option<usize>
+    requires few { h.links ≤ 512 }
+    requires nodes { h.head.nodes ≤ 64 }
+    requires ends { (j : ℕ) → j < h.links → get_or columns.now.to j 0 < h.head.nodes }
+    requires rising { RisesTo h.links columns.now.from }
+    ensures { Paired result h.links columns.now.from columns.now.to opposite.new }
 {
-    let mut cursor = [0u16; 64];
-    copy_starts(n, starts, &mut cursor);
-    if meet_opposites(count, from, to, &mut cursor, opposite) {
-        return Found::Nowhere;
+    if meet_opposites(h.links, starts, columns, opposite) {
+        return None;
     }
-    search_opposites(count, from, to, load, fraction, opposite)
+    search_opposites(h.links, columns, opposite)
 }

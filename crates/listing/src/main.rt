@@ -1,78 +1,32 @@
 // Prints what one round makes of the sheet on standard input: each link's fraction before and after.
 #![tactic(auto)]
 
-ghost use Rattle.std.specs.Prelude.{◌≤◌};
-
-use answers::Answer;
 use std::io;
 
-// The fraction is the last four bytes of a link record, which begins at `at`.
-fn fraction(s: &[u8], at: usize) -> u64
-    requires { at ≤ 8192 }
-{
-    printing::joined(
-        printing::byte_at(s, at + 4),
-        printing::byte_at(s, at + 5),
-        printing::byte_at(s, at + 6),
-        printing::byte_at(s, at + 7),
-    )
+// The ends of the link, and its fraction, the last four bytes of its record.
+fn print_link(rt: &impl Print, before: [u8; 8], after: [u8; 8]) -> io::Result<()> {
+    let [_, from, to, _, a, b, c, d] = before;
+    let old = u32::from_be_bytes([a, b, c, d]);
+    let [_, _, _, _, a, b, c, d] = after;
+    let new = u32::from_be_bytes([a, b, c, d]);
+    println!(rt; "{from} {to} {old} {new}")
 }
 
-fn print_link(rt: &impl Print, before: &[u8], after: &[u8], at: usize) -> io::Result<()>
-    requires { at ≤ 8192 }
-{
-    rt.print(printing::wide(printing::byte_at(before, at + 1)))?;
-    rt.write_all(b" ")?;
-    rt.print(printing::wide(printing::byte_at(before, at + 2)))?;
-    rt.write_all(b" ")?;
-    rt.print(fraction(before, at))?;
-    rt.write_all(b" ")?;
-    rt.print(fraction(after, at))?;
-    rt.write_all(b"\n")
-}
-
-// The links begin after the head, 7 bytes, and the nodes, 6 bytes each.
-fn first_link(sheet: &[u8]) -> usize
-    ensures { result ≤ 1537 }
-{
-    7 + 6 * printing::whole(printing::byte_at(sheet, 1))
-}
-
-// Each link has 8 bytes; no accepted sheet has more than 512, and none is shorter than its first link.
-fn count_links(length: usize, first: usize) -> usize
-    ensures { result ≤ 512 }
-{
-    if length < first {
-        return 0;
-    }
-    let count = (length - first) / 8;
-    if count > 512 {
-        return 512;
-    }
-    count
-}
-
+// What is written has the sheet's length; behind it the buffer goes on.
 fn print_links(rt: &impl Print, before: &[u8], after: &[u8]) -> io::Result<()> {
-    let first = first_link(before);
-    let count = count_links(before.len(), first);
-    let mut j = 0;
-    while j < count {
-        print_link(rt, before, after, first + 8 * j)?;
-        j += 1;
+    println!(rt; "from to before after")?;
+    for (old, new) in printing::links(before).iter().zip(printing::links(after)) {
+        print_link(rt, *old, *new)?;
     }
     Ok(())
 }
 
-// A function of its own, so that what is read keeps its length in the proof.
+// The round of one sheet, or why it is refused.
 fn list(rt: &impl Print, sheet: &[u8]) -> io::Result<()> {
     let mut after = [0u8; 8192];
-    let answer = hjerringsel::next(sheet, &mut after);
-    match answer {
-        Answer::Refused(r) => printing::print_refusal(rt, r),
-        Answer::Done(_) => {
-            rt.write_all(b"from to before after\n")?;
-            print_links(rt, sheet, &after)
-        }
+    match hjerringsel::next(sheet, &mut after) {
+        Ok(_) => print_links(rt, sheet, &after),
+        Err(r) => println!(rt; "{r}"),
     }
 }
 

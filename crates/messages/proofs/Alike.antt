@@ -4,6 +4,7 @@ use native.Mathlib.Omega.{arith}
 use mathlib.Core.Path.{◌≡◌, refl, sym, ap, subst, ◌∙◌}
 use mathlib.Core.Bool.{Bool, true, false, cond}
 use mathlib.Core.List.{List}
+use Rattle.std.specs.Prelude.{Option, Some, None, Result, Ok, Err}
 use lib.ListN.{length, get_or, take}
 use lib.Dec.{leb}
 use borrow.Author.Tests.{leb-false}
@@ -13,16 +14,17 @@ use Rattle.rules.specs.Messages.{finished, deliver, run}
 use Rattle.rules.specs.Check.{sheet_with}
 use Rattle.rules.proofs.Lists.{map_eq, in_below}
 use Rattle.rules.proofs.Sound.{Sound}
+use Rattle.answers.specs.declared.Fault.{Fault}
+use Rattle.answers.specs.declared.Fault.TheVariants.{NotWaiting, NoSuchLink}
+use Rattle.answers.specs.declared.Refusal.{Refusal}
 use Rattle.sheet.specs.declared.SheetHeld.{SheetHeld}
 use Rattle.sheet.specs.Held.{link_of, held_at, held, head_said, sheet_said}
 use Rattle.links.specs.Opposites.{Opposites}
 use Rattle.network.specs.Rows.{Rows}
 use Rattle.node.specs.Net.{state_said, Graph, Net}
 use Rattle.messages.specs.declared.Tally.{Tally}
-use Rattle.messages.specs.declared.Ran.{Ran}
-use Rattle.messages.specs.declared.Ran.TheVariants.{Stopped, Left}
-use Rattle.messages.specs.State.{Kept, LinkAt, waits_by, waiting_at, refusal_at, AlikeAt, Alike}
-use Rattle.messages.specs.Round.{Deliverable, Delivered, NetHeld, RanKept, ListRun}
+use Rattle.messages.specs.State.{Kept, waits_by, waiting_at, refusal_at, AlikeAt, Alike}
+use Rattle.messages.specs.Round.{Deliverable, Delivered, SomeNet, RanKept, ListRun}
 
 module _ {count : ℕ} {fs fs' : List ℕ} (alike : Alike count fs fs') where
   pub alike_turned : length fs ≡ 512 → Alike count fs' fs
@@ -50,7 +52,7 @@ module _ {count : ℕ} {fs fs' : List ℕ} (alike : Alike count fs fs') where
 pub said_alike : (h : SheetHeld) (tr : List ℕ) {fs fs' : List ℕ} (ts ls xs : List ℕ) → Alike h.links fs fs' → sheet_said h tr fs ts ls xs ≡ sheet_said h tr fs' ts ls xs
 said_alike h tr ts ls xs alike = ap (sheet_with (head_said h.head) (take h.head.nodes tr)) (held_alike alike ts ls xs)
 
--- ---- what the slices keep
+-- ---- what the lists keep
 module _ {h : SheetHeld} {tr fs fs' ts ls xs ss os : List ℕ} where
   pub graph_alike : Graph h tr fs ts ls xs ss os → Alike h.links fs fs' → Graph h tr fs' ts ls xs ss os
   graph_alike g alike = record {
@@ -98,32 +100,26 @@ module _ {h : SheetHeld} {tr fs fs' ss gs ps line xs os : List ℕ} where
     keeps = λ net kept inside. kept_alike (done.keeps (net_alike net alike) (kept_alike kept alike) inside) (alike_turned alike net.graph.from-size);
   }
 
-  pub ran_alike : {r : Ran} {js inbox qs : List ℕ} → ListRun r h js tr fs' ss gs ps line xs os inbox qs
+  pub ran_alike : {r : Result Tally Refusal} {js inbox qs : List ℕ} → ListRun r h js tr fs' ss gs ps line xs os inbox qs
       → Alike h.links fs fs' → ListRun r h js tr fs ss gs ps line xs os inbox qs
   ran_alike {r} {js} {inbox} {qs} ran alike = record {
     said = λ {ts} {ls} net. ran.said (net_alike net alike) ∙ ap (λ (s : Sheet). run s js) (sym (said_alike h tr ts ls xs alike));
     keeps = λ {ts} {ls} net. back ts ls (alike_turned alike net.graph.from-size) r (ran.keeps (net_alike net alike));
   }
     where
-      back : (ts ls : List ℕ) → Alike h.links fs' fs → (r : Ran) → RanKept r h tr fs' ts ls xs ss os inbox qs → RanKept r h tr fs ts ls xs ss os inbox qs
-      back ts ls turned (Stopped m k) kept = tt
-      back ts ls turned (Left t) kept = kept_alike kept turned
+      back : (ts ls : List ℕ) → Alike h.links fs' fs → (r : Result Tally Refusal) → RanKept r h tr fs' ts ls xs ss os inbox qs → RanKept r h tr fs ts ls xs ss os inbox qs
+      back ts ls turned (Err e) kept = tt
+      back ts ls turned (Ok t) kept = kept_alike kept turned
 
 -- ---- what is asked of the first list is given of the second
-pub held-net_alike : {h : SheetHeld} {tr fs fs' ss gs ps line xs os : List ℕ} → NetHeld h tr fs ss gs ps line xs os → Alike h.links fs fs' → NetHeld h tr fs' ss gs ps line xs os
+pub held-net_alike : {h : SheetHeld} {tr fs fs' ss gs ps line xs os : List ℕ} → SomeNet h tr fs ss gs ps line xs os → Alike h.links fs fs' → SomeNet h tr fs' ss gs ps line xs os
 held-net_alike held alike = record { ts = held.ts; ls = held.ls; net = net_alike held.net alike }
 
-pub deliverable_alike : {step j : ℕ} {tr fs fs' ss gs ps line xs os inbox qs : List ℕ} {t : Tally} → Deliverable step j tr fs ss gs ps line xs os inbox qs t
-    → AlikeAt j fs fs' → AlikeAt (get_or os j 0) fs fs' → length fs' ≡ 512 → Deliverable step j tr fs' ss gs ps line xs os inbox qs t
-deliverable_alike d near far size = record {
+pub deliverable_alike : {step j : ℕ} {fs fs' ss gs ps line xs os inbox qs : List ℕ} {t : Tally} → Deliverable step j fs ss gs ps line xs os inbox qs t
+    → AlikeAt j fs fs' → AlikeAt (get_or os j 0) fs fs' → Deliverable step j fs' ss gs ps line xs os inbox qs t
+deliverable_alike d near far = record {
   step-top = d.step-top;
-  traffic = d.traffic;
   link = record {
-    from-size = size;
-    fraction-size = d.link.fraction-size;
-    opposite-size = d.link.opposite-size;
-    inbox_size = d.link.inbox_size;
-    quiet-size = d.link.quiet-size;
     low = d.link.low;
     place = d.link.place;
     near = omega (arith, near, d.link.near);
@@ -134,24 +130,11 @@ deliverable_alike d near far size = record {
   spare = d.spare;
 }
 
--- ---- a link and a refusal, by the fractions
-pub link_alike : {j : ℕ} {fs xs xs' os inbox qs : List ℕ} → LinkAt j fs xs os inbox qs → length xs' ≡ 512 → LinkAt j fs xs' os inbox qs
-link_alike l size = record {
-  from-size = l.from-size;
-  fraction-size = size;
-  opposite-size = l.opposite-size;
-  inbox_size = l.inbox_size;
-  quiet-size = l.quiet-size;
-  low = l.low;
-  place = l.place;
-  near = l.near;
-  far = l.far;
-}
-
+-- ---- a refusal, by the fractions
 pub refusal_alike : (count j : ℕ) (fs xs xs' os inbox qs : List ℕ) → ((k : ℕ) → k < count → AlikeAt k xs xs')
     → refusal_at count j fs xs os inbox qs ≡ refusal_at count j fs xs' os inbox qs
 refusal_alike count j fs xs xs' os inbox qs same = go (leb count j) refl
   where
-    go : (b : Bool) → leb count j ≡ b → ◌≡◌ {A = ℕ} (cond b 12 (cond (waiting_at j fs xs os inbox qs) 0 10)) (cond b 12 (cond (waiting_at j fs xs' os inbox qs) 0 10))
+    go : (b : Bool) → leb count j ≡ b → ◌≡◌ {A = Option Fault} (cond b (Some NoSuchLink) (cond (waiting_at j fs xs os inbox qs) None (Some NotWaiting))) (cond b (Some NoSuchLink) (cond (waiting_at j fs xs' os inbox qs) None (Some NotWaiting)))
     go true e = refl
-    go false e = ap (λ (x : ℕ). cond (waits_by (get_or qs (get_or fs j 0) 0) x (get_or inbox (get_or os j 0) 0)) 0 10) (same j (leb-false count j e))
+    go false e = ap (λ (x : ℕ). cond (waits_by (get_or qs (get_or fs j 0) 0) x (get_or inbox (get_or os j 0) 0)) None (Some NotWaiting)) (same j (leb-false count j e))

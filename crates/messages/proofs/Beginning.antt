@@ -4,7 +4,7 @@ use native.Mathlib.Omega.{arith}
 use native.Mathlib.Numerals.{add-one}
 use native.Mathlib.Decide.{ℕ_discrete}
 use mathlib.Core.Path.{◌≡◌, refl, sym, ap, ◌∙◌}
-use mathlib.Core.Bool.{true}
+use mathlib.Core.Bool.{Bool, true, false}
 use mathlib.Core.List.{List}
 use lib.ListN.{length, get_or, set, length-set, length-replicate, get_or-replicate}
 use lib.Seq.{ext_get_or, get_or-set_same, get_or-set_other}
@@ -26,50 +26,44 @@ use Rattle.node.proofs.Held.{state_length, state_at, links-few}
 use Rattle.messages.specs.declared.Tally.{Tally}
 use Rattle.messages.specs.State.{is_silent, is_silent_flow, row_numbers, quiet_of, status_by, Kept, row_quiet, RowsAt, Begun}
 use Rattle.messages.proofs.Counts.{count_all, count_kept}
-use Rattle.messages.proofs.Status.{and_true, finished_by}
+use Rattle.messages.proofs.Statuses.{and_true, finished_by}
+
+bit_small : (b : Bool) → bit b ≤ 1
+bit_small true = omega arith
+bit_small false = omega arith
 
 -- ---- the loop, i nodes on
-pub record Beginning (n : ℕ) (ss gs qs : List ℕ) (finished i : ℕ) : Type 0 where
-  pub within : i ≤ n
+pub record Beginning (ss gs qs : List ℕ) (finished i : ℕ) : Type 0 where
   pub size : length qs ≡ 64
   pub counts : (k : ℕ) → k < i → get_or qs k 0 ≡ row_quiet ss gs k
   pub done : finished ≡ how_many (λ k. eqb (status_by (row_quiet ss gs k)) 2) (below i)
   pub small : finished ≤ i
 
-module _ {n : ℕ} {ss gs qs : List ℕ} where
-  pub beginning_none : length qs ≡ 64 → Beginning n ss gs qs 0 0
-  beginning_none z = record { within = omega arith; size = z; counts = λ k b. absurd (omega arith); done = refl; small = omega arith }
+module _ {ss gs qs : List ℕ} where
+  pub beginning_none : length qs ≡ 64 → Beginning ss gs qs 0 0
+  beginning_none size = record { size = size; counts = λ k b. absurd (omega arith); done = refl; small = omega arith }
 
-  pub beginning_more : {finished i q f : ℕ} → Beginning n ss gs qs finished i → n ≤ 64 → i < n → q ≡ row_quiet ss gs i → f ≡ bit (eqb (status_by q) 2) → f ≤ 1
-      → Beginning n ss gs (set qs i q) (finished + f) (i + 1)
-  beginning_more {finished} {i} {q} {f} inv few low e g one = record {
-    within = omega arith;
+  pub beginning_more : {finished i q f : ℕ} → Beginning ss gs qs finished i → i < 64 → q ≡ row_quiet ss gs i → f ≡ bit (eqb (status_by q) 2)
+      → Beginning ss gs (set qs i q) (finished + f) (i + 1)
+  beginning_more {finished} {i} {q} {f} inv low e g = record {
     size = length-set qs i q ∙ inv.size;
     counts = λ k b. at k b (ℕ_discrete k i);
     done = rw (add-one i) (omega (arith, inv.done, g, ap (λ (x : ℕ). bit (eqb (status_by x) 2)) e, total_last (λ k. bit (eqb (status_by (row_quiet ss gs k)) 2)) i));
-    small = omega (arith, inv.small);
+    small = omega (arith, inv.small, g, bit_small (eqb (status_by q) 2));
   }
     where
       at : (k : ℕ) → k < i + 1 → Dec (k ≡ i) → get_or (set qs i q) k 0 ≡ row_quiet ss gs k
       at k b (yes s) = rw s (get_or-set_same qs i q 0 (omega (arith, inv.size)) ∙ e)
       at k b (no ne) = get_or-set_other qs i k q 0 ne ∙ inv.counts k (omega arith)
 
-  pub beginning_all : {finished i : ℕ} → Beginning n ss gs qs finished i → n ≤ i → Begun n ss gs qs (record { deliveries = 0; finished = finished })
-  beginning_all {finished} {i} inv end = record {
-    size = inv.size;
-    counts = λ k b. inv.counts k (omega arith);
-    none = refl;
-    finished-right = let z : i ≡ n = omega (arith, inv.within) in inv.done ∙ ap (λ (m : ℕ). how_many (λ k. eqb (status_by (row_quiet ss gs k)) 2) (below m)) z;
-  }
+  pub beginning_all : {n i finished : ℕ} → Beginning ss gs qs finished i → i ≡ n → Begun n ss gs qs (record { deliveries = 0; finished = finished })
+  beginning_all inv end = rw (sym end) (record { size = inv.size; counts = inv.counts; none = refl; finished-right = inv.done })
 
 -- ---- what it says
 module _ {h : SheetHeld} {tr fs ts ls xs ss gs ps os line : List ℕ} (net : Net h tr fs ts ls xs ss gs ps os line) where
-  pub rows_at : {qs : List ℕ} → length qs ≡ 64 → RowsAt h.head.nodes ss gs qs
-  rows_at z = record {
+  pub rows_at : RowsAt h.head.nodes ss gs
+  rows_at = record {
     few = net.graph.sound.few;
-    size = z;
-    starts = net.graph.start-size;
-    flow-starts = net.flow-start_size;
     rise = net.graph.rows.rise;
     flow-rise = net.flow.rise;
   }

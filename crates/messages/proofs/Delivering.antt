@@ -1,11 +1,11 @@
--- A delivery over the slices is a delivery by the rules.
+-- A delivery over the lists is a delivery by the rules.
 use Prim.Native.Nat.{ℕ, ◌+◌, ◌/◌, ◌≤◌, ◌<◌}
 use native.Mathlib.Omega.{arith}
 use native.Mathlib.Decide.{dec_lt}
 use mathlib.Core.Path.{◌≡◌, refl, sym, ap, ◌∙◌}
 use mathlib.Core.Bool.{Bool, true, false}
 use mathlib.Core.List.{List}
-use lib.ListN.{length, get_or, set}
+use lib.ListN.{get_or, set}
 use lib.Dec.{eqb}
 use borrow.Author.Tests.{eqb-true}
 use Rattle.rules.specs.Sheet.{Link, Sheet, largest_step, largest_stored}
@@ -22,15 +22,15 @@ use Rattle.node.specs.Net.{RowAt, Tells, state_said, SmallInbox, Net}
 use Rattle.node.proofs.Held.{state_at, links-few, turns, desk-held, row-held}
 use Rattle.messages.specs.declared.Tally.{Tally}
 use Rattle.messages.specs.declared.Change.{Change}
-use Rattle.messages.specs.State.{step_of, Kept, CountedAt, StoredAt, Stored}
+use Rattle.messages.specs.declared.StateHeld.{StateHeld}
+use Rattle.messages.specs.State.{step_of, AlikeAt, Kept, StoredAt, Stored}
 use Rattle.messages.specs.Round.{Deliverable, Delivered}
 use Rattle.messages.proofs.Storing.{from_in, link_at_lem, counted-kept, spare-kept, stored_at_lem}
 
 module _ {h : SheetHeld} {tr fs ts ls xs ss gs ps os line : List ℕ} (net : Net h tr fs ts ls xs ss gs ps os line) {inbox qs : List ℕ} {t : Tally} (kept : Kept h tr fs ts ls xs ss os inbox qs t) {j : ℕ} (inside : j < h.links) where
-  pub deliverable : SmallInbox inbox → Deliverable h.head.step.0 j tr fs ss gs ps line xs os inbox qs t
+  pub deliverable : SmallInbox inbox → Deliverable h.head.step.0 j fs ss gs ps line xs os inbox qs t
   deliverable small = record {
     step-top = net.graph.sound.step-top;
-    traffic = net.graph.traffic-size;
     link = link_at_lem kept inside;
     row = row-held net inbox kept.inbox_size (get_or fs j 0) (from_in kept inside) small;
     counted = counted-kept kept inside;
@@ -55,23 +55,16 @@ delivered_is {h} {j} {os = os} {inbox = inbox} tells word put amended = record {
 }
 
 -- ---- the same where the nodes and the fraction were read from the list of the links: i is link j's node, b its far node, x the fraction there
-module _ {step j i : ℕ} {tr fs ss gs ps line xs os inbox qs : List ℕ} {t : Tally} (d : Deliverable step j tr fs ss gs ps line xs os inbox qs t)
-    (near : i ≡ get_or fs j 0) where
-  pub node-low : i < 64
-  node-low = omega (arith, near, d.link.near)
+pub node_row : {step j i : ℕ} {fs ss gs ps line xs os inbox qs : List ℕ} {t : Tally} → Deliverable step j fs ss gs ps line xs os inbox qs t
+    → i ≡ get_or fs j 0 → RowAt i ss gs ps line xs inbox × (step ≤ largest_step)
+node_row d near = (rw near d.row, d.step-top)
 
-  pub node_row : RowAt i ss gs ps line xs inbox × (step ≤ largest_step)
-  node_row = (rw near d.row, d.step-top)
-
-  module _ {b x : ℕ} (far : b ≡ get_or fs (get_or os j 0) 0) (part : x ≡ get_or xs (get_or os j 0) 0) where
-    pub far-asked : (length inbox ≡ 512) × (length qs ≡ 64) × (get_or os j 0 < 512) × (b < 64) × CountedAt (get_or os j 0) b x inbox qs
-    far-asked = (d.link.inbox_size, d.link.quiet-size, d.link.place, omega (arith, far, d.link.far), rw (far, part) d.counted)
-
-pub delivered_by : {h : SheetHeld} {j i b x w : ℕ} {tr fs ss gs ps line xs os inbox qs inbox' qs' : List ℕ} {t t' : Tally} {m : Message} {c : Change}
-    → i ≡ get_or fs j 0 → b ≡ get_or fs (get_or os j 0) 0 → x ≡ get_or xs (get_or os j 0) 0 → 0 < w
-    → Tells m h.head.step.0 (get_or tr i 0) ss line xs inbox i → told_of w ≡ message_said m
-    → StoredAt (get_or os j 0) b x w inbox qs inbox' qs' c → t' ≡ step_of t c → Delivered h j tr fs ss gs ps line xs os inbox qs inbox' qs' t t'
-delivered_by near far part some tells word put amended = delivered_is (rw near at tells) word (stored_at_lem some (rw (far, part) at put)) amended
+pub delivered_by : {h : SheetHeld} {j i k p b x w : ℕ} {tr fs ss gs ps line xs os : List ℕ} (ys : List ℕ) {st st' : StateHeld} {t t' : Tally} {m : Message} {c : Change}
+    → i ≡ get_or fs j 0 → k ≡ i → p ≡ get_or os j 0 → b ≡ get_or fs p 0 → x ≡ get_or ys p 0 → AlikeAt (get_or os j 0) ys xs → 0 < w
+    → Tells m h.head.step.0 (get_or tr k 0) ss line xs st.inbox i → told_of w ≡ message_said m
+    → StoredAt p b x w st st' c → t' ≡ step_of t c → Delivered h j tr fs ss gs ps line xs os st.inbox st.quiet st'.inbox st'.quiet t t'
+delivered_by ys near as_index place far part alike some tells word put amended =
+    delivered_is (rw (as_index, near) at tells) word (stored_at_lem some (rw (far, part, place, alike) at put)) amended
 
 -- ---- in a right state the stored delays are small
 told-delay : (x : ℕ) → delay_told (told_of x) ≡ x / 4

@@ -1,5 +1,6 @@
+pub mod Zeros
 pub mod Counts
-pub mod Status
+pub mod Statuses
 pub mod Storing
 pub mod Beginning
 pub mod Delivering

@@ -24,10 +24,11 @@ use Rattle.node.specs.Net.{state_said, Graph}
 use Rattle.node.proofs.Held.{state_length, state_at, links-few, held_in, stored}
 use Rattle.messages.specs.declared.Tally.{Tally}
 use Rattle.messages.specs.declared.Change.{Change}
+use Rattle.messages.specs.declared.StateHeld.{StateHeld}
 use Rattle.messages.specs.declared.Change.TheVariants.{Again, Heard, Finished}
 use Rattle.messages.specs.State.{is_silent, is_silent_flow, quiet_of, status_by, fewer, change_of, step_of, Spare, Kept, LinkAt, waiting_at, Counted, StoredAt, Stored}
 use Rattle.messages.proofs.Counts.{count_same, count_but, heard-set}
-use Rattle.messages.proofs.Status.{and_true, heard-told, status-some, status_by_lem, finished_by}
+use Rattle.messages.proofs.Statuses.{and_true, heard-told, status-some, status_by_lem, finished_by}
 
 no_and : (a : Bool) {b : Bool} → b ≡ false → (a && b) ≡ false
 no_and true e = e
@@ -153,13 +154,8 @@ module _ {h : SheetHeld} {tr fs ts ls xs ss os inbox qs : List ℕ} {t : Tally} 
       ap bit (and_true (ltb 0 (get_or xs place 0)) e),
     )
 
-    pub link_at_lem : LinkAt j fs xs os inbox qs
+    pub link_at_lem : LinkAt j fs os
     link_at_lem = record {
-      from-size = kept.graph.from-size;
-      fraction-size = kept.graph.fraction-size;
-      opposite-size = kept.graph.opposite-size;
-      inbox_size = kept.inbox_size;
-      quiet-size = kept.quiet-size;
       low = omega (arith, links-few kept.graph);
       place = omega (arith, links-few kept.graph, place_in);
       near = omega (arith, from_in, kept.graph.sound.few);
@@ -225,19 +221,19 @@ module _ {h : SheetHeld} {tr fs ts ls xs ss os inbox qs : List ℕ} {t : Tally} 
           (omega (arith, more.1, ap (λ (x : ℕ). bit (eqb (status_by x) 2)) there, ap bit (status-some (get_or qs far 0) (omega (arith, quiet-low known)))))
 
 -- ---- what store_at promises, where a word stood there and where none did
-module _ {p b x w : ℕ} {inbox qs : List ℕ} where
-  pub put_again : heard (told_of (get_or inbox p 0)) ≡ true → StoredAt p b x w inbox qs (set inbox p w) qs Again
+module _ {p b x w : ℕ} {st : StateHeld} where
+  pub put_again : heard (told_of (get_or st.inbox p 0)) ≡ true → StoredAt p b x w st (record st { inbox = set st.inbox p w }) Again
   put_again e = record { word = refl; again = λ _. (refl, refl); first = λ f. clash e f }
 
-  pub put_first : {q : ℕ} {c : Change} → heard (told_of (get_or inbox p 0)) ≡ false → q ≡ fewer (get_or qs b 0) x → c ≡ change_of q
-      → StoredAt p b x w inbox qs (set inbox p w) (set qs b q) c
-  put_first e n d = record { word = refl; again = λ f. clash f e; first = λ _. (ap (set qs b) n, d ∙ ap change_of n) }
+  pub put_first : {q : ℕ} {c : Change} → heard (told_of (get_or st.inbox p 0)) ≡ false → q ≡ fewer (get_or st.quiet b 0) x → c ≡ change_of q
+      → StoredAt p b x w st (record { inbox = set st.inbox p w; quiet = set st.quiet b q }) c
+  put_first e n d = record { word = refl; again = λ f. clash f e; first = λ _. (ap (set st.quiet b) n, d ∙ ap change_of n) }
 
 -- ---- and so store
-pub stored_at_lem : {j w : ℕ} {fs xs os inbox qs inbox' qs' : List ℕ} {c : Change} → 0 < w
-    → StoredAt (get_or os j 0) (get_or fs (get_or os j 0) 0) (get_or xs (get_or os j 0) 0) w inbox qs inbox' qs' c → Stored j w fs xs os inbox qs inbox' qs' c
-stored_at_lem {j} {w} {fs} {xs} {os} {inbox} {qs} {inbox'} {qs'} {c} word put = go (heard (told_of (get_or inbox (get_or os j 0) 0))) refl
+pub stored_at_lem : {j w : ℕ} {fs xs os : List ℕ} {st st' : StateHeld} {c : Change} → 0 < w
+    → StoredAt (get_or os j 0) (get_or fs (get_or os j 0) 0) (get_or xs (get_or os j 0) 0) w st st' c → Stored j w fs xs os st.inbox st.quiet st'.inbox st'.quiet c
+stored_at_lem {j} {w} {fs} {xs} {os} {st} {st'} {c} word put = go (heard (told_of (get_or st.inbox (get_or os j 0) 0))) refl
   where
-    go : (b : Bool) → heard (told_of (get_or inbox (get_or os j 0) 0)) ≡ b → Stored j w fs xs os inbox qs inbox' qs' c
+    go : (b : Bool) → heard (told_of (get_or st.inbox (get_or os j 0) 0)) ≡ b → Stored j w fs xs os st.inbox st.quiet st'.inbox st'.quiet c
     go true e = let r = put.again e in rw (put.word, r.0, r.1) (record { said = λ kept inside. state_now kept inside word; keeps = λ kept inside. store_again kept inside word e })
     go false e = let r = put.first e in rw (put.word, r.0, r.1) (record { said = λ kept inside. state_now kept inside word; keeps = λ kept inside. store_first kept inside word e })

@@ -1,40 +1,80 @@
-// The round as messages: the state in slices that the caller lends, the one delivery function, and a list of deliveries.
+// The round as messages: the state, which the caller lends, the one delivery function, and a list of deliveries.
 #![tactic(auto)]
 
-ghost use Rattle.std.specs.Prelude.{◌≡◌, ℕ, ◌+◌, ◌≤◌, ◌<◌, ltb, eqb, length, get_or};
+ghost use Rattle.std.specs.Prelude.{◌≡◌, ℕ, ◌+◌, ◌≤◌, ◌<◌, ltb, length, replicate, get_or};
 ghost use Rattle.rules.specs.Lists.{bit};
 ghost use Rattle.links.specs.List.{froms, fractions};
-ghost use Rattle.node.specs.Net.{Empty};
-ghost use Rattle.messages.specs.State.{AlikeAt, status_by, waits_by, fewer, change_of, step_of, LinkAt, waiting_at, refusal_at, Spare, CountedAt, Counted, StoredAt, Stored, row_quiet, RowsAt, Begun};
-ghost use Rattle.messages.specs.declared.Ran.TheVariants.{Left};
-ghost use Rattle.messages.specs.Round.{Deliverable, Delivered, NetHeld, ListRun};
+ghost use Rattle.node.specs.Net.{Empty, net_of};
+ghost use Rattle.messages.specs.State.{AlikeAt, status_number, status_by, waits_by, fewer, change_of, step_of, LinkAt, LinkIn, waiting_in, refusal_at, Spare, CountedAt, CountedIn, StoredAt, StoredIn, row_quiet, RowsAt, Begun};
+ghost use Rattle.messages.specs.Round.{linked, DeliverableIn, DeliveredIn, HeldIn, ListRunIn};
 
+use answers::{Fault, Refusal};
 use desk::Told;
 use links::Link;
+use node::{NetHeld, NetLent};
 use numbers::{Fraction, Traffic};
 use sheet::SheetHeld;
 
-// How many neighbours a node has still to hear, times 1,024, and how many of them it has a flowing link to.
+// How many neighbours a node has still to hear, times 1,024, and how many of them it has a flowing link to. One word a node: a status is
+// a test of it, and a delivery one subtraction.
 #[derive(Clone, Copy)]
 pub struct Quiet(pub u32);
 
+// The state of a round: by link the word that its far node told, 0 while it is silent; and by node whom it has still to hear.
+#[derive(Drop)]
+pub struct StateHeld {
+    pub inbox: [u32; 512],
+    pub quiet: [u32; 64],
+}
+
+impl StateHeld {
+    // Nobody was told a word, and no node has a neighbour to hear until a round begins.
+    #[tactic(auto, using(crate::proofs::Zeros::empty_zeros))]
+    pub fn new() -> StateHeld
+        ensures inbox { Empty result.inbox }
+        ensures quiet { result.quiet ≡ replicate 64 0 }
+    {
+        StateHeld {
+            inbox: [0; 512],
+            quiet: [0; 64],
+        }
+    }
+}
+
 // Deliveries made, nodes finished. A round has one, which each delivery amends where it stands.
-#[derive(Clone, Copy)]
+#[derive(Clone, Copy, Debug, PartialEq, Eq)]
 pub struct Tally {
     pub deliveries: usize,
     pub finished: usize,
 }
 
-pub fn status_of(q: Quiet) -> u8
-    ensures { result ≡ status_by q.0 }
+// How far a node is: a flowing neighbour is to be heard, another one is, or none. A status's number in the paper is its number here.
+#[derive(Clone, Copy, Debug, PartialEq, Eq)]
+pub enum Status {
+    Waiting = 0,
+    Ready = 1,
+    Finished = 2,
+}
+
+impl Status {
+    // Its number in the paper.
+    pub fn number(self) -> u8
+        ensures { result ≡ status_number self }
+    {
+        self as u8
+    }
+}
+
+pub fn status_of(q: Quiet) -> Status
+    ensures { status_number result ≡ status_by q.0 }
 {
     if q.0 < 1024 {
-        return 2;
+        return Status::Finished;
     }
     if q.0 % 1024 == 0 {
-        return 1;
+        return Status::Ready;
     }
-    0
+    Status::Waiting
 }
 
 // Does a message wait, whose node has the counts q, on a link with fraction x that carried w?
@@ -43,24 +83,21 @@ fn may_send(q: Quiet, x: Fraction, w: Told) -> bool
 {
     let stat = status_of(q);
     let flows = 0 < x.0;
-    !desk::is_heard(w) & ((stat == 2) | (stat == 1) & !flows)
+    !desk::is_heard(w) & ((stat == Status::Finished) | (stat == Status::Ready) & !flows)
 }
 
 // Does the message on link j wait?
-pub fn is_waiting(
-    j: usize,
-    from: &[u8],
-    fraction: &[u32],
-    opposite: &[u16],
-    inbox: &[u32],
-    quiet: &[u32],
-) -> bool
-    requires { LinkAt j from.now fraction.now opposite.now inbox.now quiet.now }
-    ensures { result ≡ waiting_at j from.now fraction.now opposite.now inbox.now quiet.now }
+pub fn is_waiting(j: usize, net: &NetHeld, state: &StateHeld) -> bool
+    requires { LinkIn j net.now }
+    ensures { result ≡ waiting_in j net.now state.now }
 {
-    let i = from[j] as usize;
-    let p = opposite[j] as usize;
-    may_send(Quiet(quiet[i]), Fraction(fraction[j]), Told(inbox[p]))
+    let i = usize::from(net.columns.from[j]);
+    let p = usize::from(net.opposite[j]);
+    may_send(
+        Quiet(state.quiet[i]),
+        Fraction(net.columns.fraction[j]),
+        Told(state.inbox[p]),
+    )
 }
 
 // One neighbour fewer to hear, over a link with fraction x.
@@ -76,7 +113,7 @@ fn hear_one(q: Quiet, x: Fraction) -> Quiet
 }
 
 // What a stored word changes of the tally: nothing where one stood there already; else it is a delivery, and its far node may finish with it.
-#[derive(Clone, Copy)]
+#[derive(Clone, Copy, Debug, PartialEq, Eq)]
 pub enum Change {
     Again,
     Heard,
@@ -88,7 +125,7 @@ fn change_of(q: Quiet) -> Change
     ensures { result ≡ change_of q.0 }
 {
     let stat = status_of(q);
-    if stat == 2 {
+    if stat == Status::Finished {
         return Change::Finished;
     }
     Change::Heard
@@ -102,10 +139,7 @@ pub fn stepped(t: Tally, change: Change) -> Tally
     let deliveries = t.deliveries + 1;
     match change {
         Change::Again => t,
-        Change::Heard => Tally {
-            deliveries,
-            finished: t.finished,
-        },
+        Change::Heard => Tally { deliveries, ..t },
         Change::Finished => Tally {
             deliveries,
             finished: t.finished + 1,
@@ -122,73 +156,57 @@ fn amend(t: &mut Tally, change: Change)
 }
 
 // Stores a word at place p of the inbox, which node b reads by its link with fraction x. Only the first word there counts as a delivery.
-fn store_at(p: usize, b: u8, x: Fraction, w: Told, inbox: &mut [u32], quiet: &mut [u32]) -> Change
-    requires { (length inbox.old ≡ 512) × (length quiet.old ≡ 64) × (p < 512) × (b < 64) × CountedAt p b x.0 inbox.old quiet.old }
-    ensures { StoredAt p b x.0 w.0 inbox.old quiet.old inbox.new quiet.new result }
+fn store_at(p: usize, b: u8, x: Fraction, w: Told, state: &mut StateHeld) -> Change
+    requires place { p < 512 }
+    requires node { b < 64 }
+    requires counted { CountedAt p b x.0 state.old.inbox state.old.quiet }
+    ensures { StoredAt p b x.0 w.0 state.old state.new result }
 {
-    let before = Told(inbox[p]);
-    inbox[p] = w.0;
+    let before = Told(state.inbox[p]);
+    state.inbox[p] = w.0;
     if desk::is_heard(before) {
         return Change::Again;
     }
-    let i = b as usize;
-    let q = hear_one(Quiet(quiet[i]), x);
-    quiet[i] = q.0;
+    let i = usize::from(b);
+    let q = hear_one(Quiet(state.quiet[i]), x);
+    state.quiet[i] = q.0;
     change_of(q)
 }
 
 // Stores a word on link j, where its far node hears it. Only the first word on a link counts as a delivery.
-pub fn store(
-    j: usize,
-    w: Told,
-    from: &[u8],
-    fraction: &[u32],
-    opposite: &[u16],
-    inbox: &mut [u32],
-    quiet: &mut [u32],
-) -> Change
-    requires { LinkAt j from.now fraction.now opposite.now inbox.old quiet.old × Counted j from.now fraction.now opposite.now inbox.old quiet.old × (0 < w.0) }
-    ensures { Stored j w.0 from.now fraction.now opposite.now inbox.old quiet.old inbox.new quiet.new result }
+pub fn store(j: usize, w: Told, net: &NetHeld, state: &mut StateHeld) -> Change
+    requires link { LinkIn j net.now }
+    requires counted { CountedIn j net.now state.old }
+    requires word { 0 < w.0 }
+    ensures { StoredIn j w.0 net.now state.old state.new result }
 {
-    let p = opposite[j] as usize;
-    store_at(p, from[p], Fraction(fraction[p]), w, inbox, quiet)
-}
-
-fn wide(x: u16) -> u32
-    ensures { (result ≡ x) × (result < 65536) }
-{
-    x as u32
+    let p = usize::from(net.opposite[j]);
+    let x = Fraction(net.columns.fraction[p]);
+    store_at(p, net.columns.from[p], x, w, state)
 }
 
 // Node i's counts while it has heard nobody.
-fn row_quiet(i: usize, starts: &[u16], flow_starts: &[u16]) -> Quiet
-    requires { (i < 64) × (length starts.now ≡ 65) × (length flow_starts.now ≡ 65) × (get_or starts.now i 0 ≤ get_or starts.now (i + 1) 0) × (get_or flow_starts.now i 0 ≤ get_or flow_starts.now (i + 1) 0) }
+fn row_quiet(i: usize, starts: &[u16; 65], flow_starts: &[u16; 65]) -> Quiet
+    requires low { i < 64 }
+    requires rise { get_or starts.now i 0 ≤ get_or starts.now (i + 1) 0 }
+    requires flow_rise { get_or flow_starts.now i 0 ≤ get_or flow_starts.now (i + 1) 0 }
     ensures { result.0 ≡ row_quiet starts.now flow_starts.now i }
 {
-    let all = wide(starts[i + 1]) - wide(starts[i]);
-    let flowing = wide(flow_starts[i + 1]) - wide(flow_starts[i]);
+    let all = u32::from(starts[i + 1]) - u32::from(starts[i]);
+    let flowing = u32::from(flow_starts[i + 1]) - u32::from(flow_starts[i]);
     Quiet(all * 1024 + flowing)
 }
 
-fn finished_bit(q: Quiet) -> usize
-    ensures { (result ≡ bit (eqb (status_by q.0) 2)) × (result ≤ 1) }
-{
-    if status_of(q) == 2 { 1 } else { 0 }
-}
-
 // The counts where nothing was delivered. A node with no links has finished.
-pub fn begin(n: u8, starts: &[u16], flow_starts: &[u16], quiet: &mut [u32]) -> Tally
-    requires { RowsAt n starts.now flow_starts.now quiet.old }
+pub fn begin(n: u8, starts: &[u16; 65], flow_starts: &[u16; 65], quiet: &mut [u32; 64]) -> Tally
+    requires { RowsAt n starts.now flow_starts.now }
     ensures { Begun n starts.now flow_starts.now quiet.new result }
 {
-    let count = n as usize;
-    let mut finished: usize = 0;
-    let mut i: usize = 0;
-    while i < count {
+    let mut finished = 0;
+    for i in 0..usize::from(n) {
         let q = row_quiet(i, starts, flow_starts);
         quiet[i] = q.0;
-        finished += finished_bit(q);
-        i += 1;
+        finished += usize::from(status_of(q) == Status::Finished);
     }
     Tally {
         deliveries: 0,
@@ -197,209 +215,135 @@ pub fn begin(n: u8, starts: &[u16], flow_starts: &[u16], quiet: &mut [u32]) -> T
 }
 
 // The one delivery function: link j's node works its message out from its own records and what it has heard, it is stored, and the
-// round's tally is amended where it stands.
+// round's tally is amended where it stands. The nodes are read from the list of the links, whose fractions must agree with the column's.
 pub fn deliver(
     h: SheetHeld,
     j: usize,
     t: &mut Tally,
-    traffic: &[u32],
     links: &[Link],
-    starts: &[u16],
-    flow_starts: &[u16],
-    flow: &[u16],
-    line: &[u32],
-    fraction: &[u32],
-    opposite: &[u16],
-    inbox: &mut [u32],
-    quiet: &mut [u32],
+    net: &NetLent<'_>,
+    state: &mut StateHeld,
 )
-    requires { Deliverable h.head.step.0 j traffic.now (froms links.now) starts.now flow_starts.now flow.now line.now fraction.now opposite.now inbox.old quiet.old t.old × AlikeAt (get_or opposite.now j 0) (fractions links.now) fraction.now }
-    ensures { Delivered h j traffic.now (froms links.now) starts.now flow_starts.now flow.now line.now fraction.now opposite.now inbox.old quiet.old inbox.new quiet.new t.old t.new }
+    requires size { length links.now ≡ 512 }
+    requires deliverable { DeliverableIn h.head.step.0 j (linked links.now (net_of net.now)) net.now.line.now state.old t.old }
+    requires alike { AlikeAt (get_or net.now.opposite.now j 0) (fractions links.now) net.now.columns.now.fraction }
+    ensures { DeliveredIn h j (linked links.now (net_of net.now)) net.now.line.now state.old state.new t.old t.new }
 {
     let i = links::from_of(links::link_at(links, j));
-    let k = i as usize;
     let m = node::message_of(
         h.head.step,
-        Traffic(traffic[k]),
+        Traffic(net.columns.traffic[usize::from(i)]),
         i,
-        starts,
-        flow_starts,
-        flow,
-        line,
-        fraction,
-        inbox,
+        &net.rows,
+        net.line,
+        &net.columns.fraction,
+        &state.inbox,
     );
-    let p = opposite[j] as usize;
+    let p = usize::from(net.opposite[j]);
     let back = links::link_at(links, p);
     let change = store_at(
         p,
         links::from_of(back),
         links::fraction_of(back),
         desk::told_by(m),
-        inbox,
-        quiet,
+        state,
     );
     amend(t, change);
 }
 
-// One delivery, for a caller that holds the tally by value and the links in slices.
+// One delivery, for a caller that holds the tally by value and the links in columns.
 pub fn deliver_once(
     h: SheetHeld,
     j: usize,
     t: Tally,
-    traffic: &[u32],
-    from: &[u8],
-    to: &[u8],
-    load: &[u8],
-    starts: &[u16],
-    flow_starts: &[u16],
-    flow: &[u16],
-    line: &[u32],
-    fraction: &[u32],
-    opposite: &[u16],
-    inbox: &mut [u32],
-    quiet: &mut [u32],
+    net: &NetLent<'_>,
+    state: &mut StateHeld,
 ) -> Tally
-    requires { Deliverable h.head.step.0 j traffic.now from.now starts.now flow_starts.now flow.now line.now fraction.now opposite.now inbox.old quiet.old t × (h.links ≤ 512) × (j < h.links) × (get_or opposite.now j 0 < h.links) × (length to.now ≡ 512) × (length load.now ≡ 512) }
-    ensures { Delivered h j traffic.now from.now starts.now flow_starts.now flow.now line.now fraction.now opposite.now inbox.old quiet.old inbox.new quiet.new t result }
+    requires deliverable { DeliverableIn h.head.step.0 j (net_of net.now) net.now.line.now state.old t }
+    requires few { h.links ≤ 512 }
+    requires inside { j < h.links }
+    requires back { get_or net.now.opposite.now j 0 < h.links }
+    ensures { DeliveredIn h j (net_of net.now) net.now.line.now state.old state.new t result }
 {
-    let links = links::list(h.links, from, to, load, fraction);
     let mut tally = t;
     deliver(
         h,
         j,
         &mut tally,
-        traffic,
-        &links,
-        starts,
-        flow_starts,
-        flow,
-        line,
-        fraction,
-        opposite,
-        inbox,
-        quiet,
+        &links::list(h.links, net.columns),
+        net,
+        state,
     );
     tally
 }
 
-// Stopped with a refusal's number and place, or the tally of the state that is left.
-#[derive(Clone, Copy)]
-pub enum Ran {
-    Stopped(u8, usize),
-    Left(Tally),
-}
-
-fn left(t: Tally) -> Ran
-    ensures { result ≡ Left t }
-{
-    Ran::Left(t)
-}
-
-// What a number j of a list is refused with: 12 where it is no link's, then 10 where no message waits there; 0 is no refusal.
+// What a number j of a list is refused with: NoSuchLink where it is no link's, then NotWaiting where no message waits there.
 fn refusal_at(
     count: usize,
     j: usize,
     links: &[Link],
-    opposite: &[u16],
-    inbox: &[u32],
-    quiet: &[u32],
-) -> u8
-    requires { j < count → LinkAt j (froms links.now) (fractions links.now) opposite.now inbox.now quiet.now }
-    ensures { result ≡ refusal_at count j (froms links.now) (fractions links.now) opposite.now inbox.now quiet.now }
+    opposite: &[u16; 512],
+    state: &StateHeld,
+) -> Option<Fault>
+    requires size { length links.now ≡ 512 }
+    requires link { j < count → LinkAt j (froms links.now) opposite.now }
+    ensures { result ≡ refusal_at count j (froms links.now) (fractions links.now) opposite.now state.now.inbox state.now.quiet }
 {
     if count <= j {
-        return 12;
+        return Some(Fault::NoSuchLink);
     }
     let l = links::link_at(links, j);
-    let i = links::from_of(l) as usize;
-    let p = opposite[j] as usize;
-    if may_send(Quiet(quiet[i]), links::fraction_of(l), Told(inbox[p])) {
-        return 0;
+    let i = usize::from(links::from_of(l));
+    let p = usize::from(opposite[j]);
+    if may_send(
+        Quiet(state.quiet[i]),
+        links::fraction_of(l),
+        Told(state.inbox[p]),
+    ) {
+        return None;
     }
-    10
+    Some(Fault::NotWaiting)
 }
 
 // The deliveries of a list, from the beginning, over the list of the links.
 fn run_links(
     h: SheetHeld,
     order: &[u16],
-    traffic: &[u32],
     links: &[Link],
-    starts: &[u16],
-    flow_starts: &[u16],
-    flow: &[u16],
-    line: &[u32],
-    fraction: &[u32],
-    opposite: &[u16],
-    inbox: &mut [u32],
-    quiet: &mut [u32],
-) -> Ran
-    requires { NetHeld h traffic.now (froms links.now) starts.now flow_starts.now flow.now line.now fraction.now opposite.now × Empty inbox.old × (length quiet.old ≡ 64) × ((k : ℕ) → k < h.links → AlikeAt k (fractions links.now) fraction.now) }
-    ensures { ListRun result h order.now traffic.now (froms links.now) starts.now flow_starts.now flow.now line.now fraction.now opposite.now inbox.new quiet.new }
+    net: &NetLent<'_>,
+    state: &mut StateHeld,
+) -> Result<Tally, Refusal>
+    requires held { HeldIn h (linked links.now (net_of net.now)) net.now.line.now }
+    requires empty { Empty state.old.inbox }
+    requires alike { (k : ℕ) → k < h.links → AlikeAt k (fractions links.now) net.now.columns.now.fraction }
+    ensures { ListRunIn result h order.now (linked links.now (net_of net.now)) net.now.line.now state.new }
 {
-    let count = h.links;
-    let mut t = begin(h.head.nodes, starts, flow_starts, quiet);
-    let mut k: usize = 0;
-    while k < order.len() {
-        let j = order[k] as usize;
-        let number = refusal_at(count, j, links, opposite, inbox, quiet);
-        if 0 < number {
-            return Ran::Stopped(number, k);
+    let mut t = begin(
+        h.head.nodes,
+        net.rows.starts,
+        net.rows.flow_starts,
+        &mut state.quiet,
+    );
+    for (k, number) in order.iter().enumerate() {
+        let j = usize::from(*number);
+        if let Some(fault) = refusal_at(h.links, j, links, net.opposite, state) {
+            return Err(Refusal { fault, place: k });
         }
-        deliver(
-            h,
-            j,
-            &mut t,
-            traffic,
-            links,
-            starts,
-            flow_starts,
-            flow,
-            line,
-            fraction,
-            opposite,
-            inbox,
-            quiet,
-        );
-        k += 1;
+        deliver(h, j, &mut t, links, net, state);
     }
-    left(t)
+    Ok(t)
 }
 
 // The deliveries of a list, from the beginning. The links, which come in any order then, are put into one list of records first.
 pub fn run_list(
     h: SheetHeld,
     order: &[u16],
-    traffic: &[u32],
-    from: &[u8],
-    to: &[u8],
-    load: &[u8],
-    starts: &[u16],
-    flow_starts: &[u16],
-    flow: &[u16],
-    line: &[u32],
-    fraction: &[u32],
-    opposite: &[u16],
-    inbox: &mut [u32],
-    quiet: &mut [u32],
-) -> Ran
-    requires { NetHeld h traffic.now from.now starts.now flow_starts.now flow.now line.now fraction.now opposite.now × Empty inbox.old × (length quiet.old ≡ 64) × (length to.now ≡ 512) × (length load.now ≡ 512) }
-    ensures { ListRun result h order.now traffic.now from.now starts.now flow_starts.now flow.now line.now fraction.now opposite.now inbox.new quiet.new }
+    net: &NetLent<'_>,
+    state: &mut StateHeld,
+) -> Result<Tally, Refusal>
+    requires held { HeldIn h (net_of net.now) net.now.line.now }
+    requires empty { Empty state.old.inbox }
+    ensures { ListRunIn result h order.now (net_of net.now) net.now.line.now state.new }
 {
-    let links = links::list(h.links, from, to, load, fraction);
-    run_links(
-        h,
-        order,
-        traffic,
-        &links,
-        starts,
-        flow_starts,
-        flow,
-        line,
-        fraction,
-        opposite,
-        inbox,
-        quiet,
-    )
+    run_links(h, order, &links::list(h.links, net.columns), net, state)
 }

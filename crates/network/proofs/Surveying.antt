@@ -16,32 +16,26 @@ use Rattle.rules.proofs.Tests.{bit-one}
 use Rattle.rules.proofs.Lists.{total-append, below_last, below_length}
 use Rattle.sheet.specs.Held.{held, found_said}
 use Rattle.sheet.specs.declared.HeadHeld.{HeadHeld}
-use Rattle.sheet.specs.declared.Found.{Found}
+use Rattle.std.specs.Prelude.{Option, Some, None}
+use Rattle.std.specs.Int.{from_bool}
+use Rattle.std.specs.Option.{option_or}
 use Rattle.network.specs.Rows.{part, Sorted, Rows, Flow}
 use Rattle.network.specs.Answers.{RowTo, RowSurveyed, or_else, wrong_sum, Surveyed}
 use Rattle.network.specs.declared.RowHeld.{RowHeld}
-use Rattle.network.proofs.Parts.{part_none, part-more, part-kept, part_fill, flowing-more}
+use Rattle.network.proofs.Parts.{part-more, part-kept, part_fill, flowing-more}
 use Rattle.network.proofs.Rows.{part_length, Range, range_sum}
 
 -- ---- one row
-module _ {i start flow_start count : ℕ} {fs xs before : List ℕ} where
-  pub row-none : start ≤ count → flow_start ≤ start → length before ≡ 512 → RowTo i start flow_start count fs xs before start flow_start 0 before
-  row-none h l s = record {
-    rise = omega arith;
-    top = h;
-    inside = λ j a b. absurd (omega arith);
-    sums = rw (part_none xs start);
-    flow_rise = omega arith;
-    flow_top = l;
-    places = rw (part_none xs start, part_none before flow_start);
-    kept = refl;
-    size = s;
-  }
+bit_is : (b : Bool) → from_bool b ≡ bit b
+bit_is true = refl
+bit_is false = refl
 
-  pub row_more : {k m sum w : ℕ} {ps : List ℕ} → RowTo i start flow_start count fs xs before k m sum ps → k < count → count ≤ 512 → length xs ≡ 512
-      → get_or fs k 0 ≡ i → w ≡ bit (ltb 0 (get_or xs k 0)) → RowTo i start flow_start count fs xs before (k + 1) (m + w) (sum + get_or xs k 0) (set ps m (k - start))
-  row_more {k} {m} {sum} {w} {ps} r h few long e b =
+module _ {i start flow_start count : ℕ} {fs xs before : List ℕ} where
+  pub row_more : {k m sum v w : ℕ} {ps : List ℕ} → RowTo i start flow_start count fs xs before k m sum ps → k < count → count ≤ 512 → length xs ≡ 512 → get_or fs k 0 ≡ i
+      → v ≡ get_or xs k 0 → w ≡ from_bool (ltb 0 (get_or xs k 0)) → RowTo i start flow_start count fs xs before (k + 1) (m + w) (sum + v) (set ps m (k - start))
+  row_more {k} {m} {sum} {v} {w} {ps} r h few long e a b' =
       let x = get_or xs k 0 in
+      let b : w ≡ bit (ltb 0 x) = b' ∙ bit_is (ltb 0 x) in
       let more : part xs start (k + 1) ≡ part xs start k ++ (x ∷ []) = part-more xs start k r.rise (omega arith) in
       let room : m < length ps = omega (arith, r.flow_top, r.size) in
       let place : length (part xs start k) ≡ k - start = part_length xs start k (omega arith) in
@@ -49,7 +43,7 @@ module _ {i start flow_start count : ℕ} {fs xs before : List ℕ} where
         rise = omega (arith, r.rise);
         top = omega arith;
         inside = λ j a l. below_more (λ (j : ℕ). start ≤ j → get_or fs j 0 ≡ i) k (λ j l a. r.inside j a l) (λ a. e) j l a;
-        sums = rw (more, total-append (λ x. x) (part xs start k) (x ∷ [])) (omega (arith, r.sums));
+        sums = rw (a, more, total-append (λ x. x) (part xs start k) (x ∷ [])) (omega (arith, r.sums));
         flow_rise = omega (arith, r.flow_rise);
         flow_top = omega (arith, r.flow_top, bit-one (ltb 0 x));
         places = rw (b, part_fill ps flow_start m (k - start) (ltb 0 x) r.flow_rise room, r.places, more, flowing-more (part xs start k) x, place);
@@ -143,6 +137,10 @@ first_last p k =
     ∙ first-append p 0 (below k) (k ∷ [])
     ∙ ap (λ (j : ℕ). or_else (first p (below k)) (cond (p k) (at j) nowhere)) z
 
+said_or : (w u : Option ℕ) → found_said (option_or w u) ≡ or_else (found_said w) (found_said u)
+said_or None u = refl
+said_or (Some k) u = refl
+
 abbrev pub wrong_row : ℕ → ℕ → List ℕ → List ℕ → List ℕ → List ℕ → ℕ → Bool
 wrong_row d count fs ts ls xs i = not (eqb (total (λ m. m.fraction) (row_of i (held count fs ts ls xs))) (cond (eqb i d) 0 whole))
 
@@ -157,7 +155,7 @@ module _ {count i k e : ℕ} {fs : List ℕ} (r : Range count fs i k e) (d : ℕ
       turn false = refl
 
 -- ---- what the loop over the nodes keeps: all nodes below i, with links up to k and flow up to m
-pub record Surveying (n d count : ℕ) (fs xs : List ℕ) (i k m : ℕ) (w : Found) (ss gs ps : List ℕ) : Type 0 where
+pub record Surveying (n d count : ℕ) (fs xs : List ℕ) (i k m : ℕ) (w : Option ℕ) (ss gs ps : List ℕ) : Type 0 where
   pub within : i ≤ n
   pub rows : Rows i k fs ss
   pub flow : Flow i ss xs gs ps
@@ -172,40 +170,11 @@ pub record Surveying (n d count : ℕ) (fs xs : List ℕ) (i k m : ℕ) (w : Fou
   pub sizes : (length ss ≡ 65) × (length gs ≡ 65) × (length ps ≡ 512)
 
 module _ {n d count : ℕ} {fs xs : List ℕ} where
-  pub surveying_none : (ss gs ps : List ℕ) → length ss ≡ 65 → length gs ≡ 65 → length ps ≡ 512
-      → Surveying n d count fs xs 0 0 0 Found.Nowhere (set ss 0 0) (set gs 0 0) ps
-  surveying_none ss gs ps a b c =
-      let s : get_or (set ss 0 0) 0 0 ≡ 0 = get_or-set_same ss 0 0 0 (omega arith) in
-      let g : get_or (set gs 0 0) 0 0 ≡ 0 = get_or-set_same gs 0 0 0 (omega arith) in
-      record {
-        within = omega arith;
-        rows = record {
-          rise = λ j l. absurd (omega arith);
-          top = λ j l. let z : j ≡ 0 = omega arith in rw z (omega arith);
-          inside = λ j o l. absurd (omega arith);
-          found = λ o l. absurd (omega arith);
-        };
-        flow = record {
-          rise = λ j l. absurd (omega arith);
-          top = λ j l. let z : j ≡ 0 = omega arith in rw z (omega arith);
-          places = λ j l. absurd (omega arith);
-        };
-        start = s;
-        flow_start = g;
-        top = omega arith;
-        flow_top = omega arith;
-        under = λ j l. let z : j ≡ 0 = omega arith in rw z (omega arith);
-        low = λ j l. absurd (omega arith);
-        high = λ j l o. omega arith;
-        said = λ ts ls. refl;
-        sizes = (length-set ss 0 0 ∙ a, length-set gs 0 0 ∙ b, c);
-      }
-
-  module _ {i k m : ℕ} {w : Found} {ss gs ps : List ℕ} (s : Surveying n d count fs xs i k m w ss gs ps) where
-    pub surveying_more : {r : RowHeld} {v : Found} {qs : List ℕ} → i < n → n ≤ 64 → count ≤ 512 → length xs ≡ 512 → Sorted n count fs
-        → RowSurveyed r i k m count fs xs ps qs → found_said v ≡ or_else (found_said w) (wrong_sum r.sum.0 i d)
+  module _ {i k m : ℕ} {w : Option ℕ} {ss gs ps : List ℕ} (s : Surveying n d count fs xs i k m w ss gs ps) where
+    pub surveying_more : (u : Option ℕ) {r : RowHeld} {v : Option ℕ} {qs : List ℕ} → i < n → n ≤ 64 → count ≤ 512 → length xs ≡ 512 → Sorted n count fs
+        → RowSurveyed r i k m count fs xs ps qs → found_said u ≡ wrong_sum r.sum.0 i d → v ≡ option_or w u
         → Surveying n d count fs xs (i + 1) r.end r.filled v (set ss (i + 1) r.end) (set gs (i + 1) r.filled) qs
-    surveying_more {r} {v} {qs} h few all long sorted row e = record {
+    surveying_more u {r} {v} {qs} h few all long sorted row e o = record {
       within = omega arith;
       rows = rows_more s.rows s.start r.end (omega (arith, s.sizes.0)) t.rise s.low t.inside;
       flow = flow-more r.end s.flow s.start s.flow_start s.under (omega (arith, s.sizes.0)) (omega (arith, s.sizes.1)) t.flow_rise (omega (arith, t.flow_top, t.top)) t.kept t.places;
@@ -216,7 +185,7 @@ module _ {n d count : ℕ} {fs xs : List ℕ} where
       under = top-more gs i r.filled (omega (arith, s.sizes.1)) (omega arith) (λ j l. omega (arith, s.under j l, t.flow_rise));
       low = λ j l. low j l (dec_lt j k);
       high = high;
-      said = λ ts ls. e ∙ ap₂ or_else (s.said ts ls) (wrong_is range d ts ls xs (omega arith) t.sums) ∙ sym (first_last (wrong_row d count fs ts ls xs) i);
+      said = λ ts ls. ap found_said o ∙ said_or w u ∙ ap₂ or_else (s.said ts ls) (e ∙ wrong_is range d ts ls xs (omega arith) t.sums) ∙ sym (first_last (wrong_row d count fs ts ls xs) i);
       sizes = (length-set ss (i + 1) r.end ∙ s.sizes.0, length-set gs (i + 1) r.filled ∙ s.sizes.1, t.size);
     }
       where
@@ -241,7 +210,7 @@ module _ {n d count : ℕ} {fs xs : List ℕ} where
           behind = λ j l b z. omega (arith, high j l b);
         }
 
-module _ {count : ℕ} {fs xs : List ℕ} (h : HeadHeld) {i k m : ℕ} {w : Found} {ss gs ps : List ℕ}
+module _ {count : ℕ} {fs xs : List ℕ} (h : HeadHeld) {i k m : ℕ} {w : Option ℕ} {ss gs ps : List ℕ}
     (s : Surveying h.nodes h.destination count fs xs i k m w ss gs ps) where
   pub surveying_all : h.nodes ≤ i → Sorted h.nodes count fs → Surveyed w h count fs xs ss gs ps
   surveying_all l sorted =

@@ -1,11 +1,16 @@
 -- The links of a sheet by node: where each row stands, which of its places flow, and each link's opposite.
-use Rattle.std.specs.Prelude.{ℕ, ◌+◌, ◌-◌, ◌≤◌, ◌<◌, ◌≡◌, List, get_or, take, drop}
+use Rattle.std.specs.Prelude.{ℕ, ◌+◌, ◌-◌, ◌≤◌, ◌<◌, ◌≡◌, List, get_or, take, drop, replicate}
 use Rattle.rules.specs.Lists.{flowing}
 use Rattle.links.specs.Opposites.{RisesTo}
+use Rattle.network.specs.declared.RowsHeld.{RowsHeld}
 
 -- what stands from a up to e
 abbrev pub part : List ℕ → ℕ → ℕ → List ℕ
 part xs a e = take (e - a) (drop a xs)
+
+-- all 0: no row is surveyed yet
+unfoldable pub no_rows : RowsHeld
+no_rows = record { starts = replicate 65 0; flow_starts = replicate 65 0; flow = replicate 512 0 }
 
 -- links sorted by from, which is below n
 pub record Sorted (n count : ℕ) (fs : List ℕ) : Type 0 where

@@ -1,19 +1,47 @@
 // What a sheet's links say of its nodes: the rows, and what flows in them.
 #![tactic(auto)]
 
-ghost use Rattle.std.specs.Prelude.{◌≡◌, cond, ℕ, ◌≤◌, ◌<◌, length, get_or, ltb, eqb};
-ghost use Rattle.rules.specs.Lists.{bit, below, first};
+ghost use Rattle.std.specs.Prelude.{◌≡◌, cond, ◌≤◌, eqb};
 ghost use Rattle.rules.specs.Sheet.{whole};
 ghost use Rattle.sheet.specs.Held.{found_said};
-ghost use Rattle.network.specs.Rows.{Sorted};
-ghost use Rattle.network.specs.Answers.{RowSurveyed, or_else, wrong_sum, Surveyed};
+ghost use Rattle.network.specs.Rows.{no_rows, Sorted};
+ghost use Rattle.network.specs.Answers.{RowSurveyed, wrong_sum, SurveyedIn};
 
 use numbers::Fraction;
-use sheet::{Found, HeadHeld};
+use sheet::{Columns, SheetHeld};
 
 // A sum of fractions.
 #[derive(Clone, Copy)]
 pub struct FractionSum(pub u64);
+
+// Where each node's row begins, where its part of the flow does, and the places that flow. Node i's end where node i + 1's begin.
+#[derive(Drop)]
+pub struct RowsHeld {
+    pub starts: [u16; 65],
+    pub flow_starts: [u16; 65],
+    pub flow: [u16; 512],
+}
+
+impl RowsHeld {
+    #[tactic(auto, unfolding(crate::specs::Rows::no_rows))]
+    pub fn new() -> RowsHeld
+        ensures { result ≡ no_rows }
+    {
+        RowsHeld {
+            starts: [0; 65],
+            flow_starts: [0; 65],
+            flow: [0; 512],
+        }
+    }
+}
+
+// The rows as they are lent. The places that flow may stand in a list of any length that holds them.
+#[derive(Clone, Copy)]
+pub struct RowsLent<'a> {
+    pub starts: &'a [u16; 65],
+    pub flow_starts: &'a [u16; 65],
+    pub flow: &'a [u16],
+}
 
 // Where a row and its part of the flow end, and what its fractions add up to.
 #[derive(Clone, Copy)]
@@ -23,35 +51,31 @@ struct RowHeld {
     sum: FractionSum,
 }
 
-// 1 where a link flows: a number to add, since a branch on it would be foretold wrongly half the time.
-fn flow_bit(x: Fraction) -> usize
-    ensures { (result ≡ bit (ltb 0 x.0)) × (result ≤ 1) }
-{
-    if 0 < x.0 { 1 } else { 0 }
-}
-
 // Node i's row: adds its fractions up and writes the places that flow.
-// A dry place is written too, and the next one takes its room.
+// A dry place is written too, and the next one takes its room: a branch on what flows would be foretold wrongly half the time.
 fn survey_row(
     i: u8,
     start: usize,
     filled: usize,
     count: usize,
-    from: &[u8],
-    fraction: &[u32],
-    flow: &mut [u16],
+    from: &[u8; 512],
+    fraction: &[u32; 512],
+    flow: &mut [u16; 512],
 ) -> RowHeld
-    requires { (start ≤ count) × (count ≤ 512) × (filled ≤ start) × (length from.now ≡ 512) × (length fraction.now ≡ 512) × (length flow.old ≡ 512) }
+    requires begins { start ≤ count }
+    requires few { count ≤ 512 }
+    requires room { filled ≤ start }
     ensures { RowSurveyed result i start filled count from.now fraction.now flow.old flow.new }
 {
     let mut k = start;
     let mut m = filled;
     let mut sum: u64 = 0;
+    // A `while`: the row ends where a higher node begins, which is found on the way.
     while k < count && from[k] == i {
-        let x = Fraction(fraction[k]);
-        sum += x.0 as u64;
+        let x = fraction[k];
+        sum += u64::from(x);
         flow[m] = (k - start) as u16;
-        m += flow_bit(x);
+        m += usize::from(0 < x);
         k += 1;
     }
     RowHeld {
@@ -68,57 +92,49 @@ fn is_due(s: FractionSum, i: u8, destination: u8) -> bool
     if i == destination {
         s.0 == 0
     } else {
-        s.0 == (Fraction::WHOLE.0 as u64)
+        s.0 == u64::from(Fraction::WHOLE.0)
     }
 }
 
-// The lowest node with a wrong sum, once node i is judged too.
-fn first_wrong(before: Found, s: FractionSum, i: u8, destination: u8) -> Found
-    ensures { found_said result ≡ or_else (found_said before) (wrong_sum s.0 i destination) }
+// Node i, where the sum of its row is wrong.
+fn wrong_sum(s: FractionSum, i: u8, destination: u8) -> Option<usize>
+    ensures { found_said result ≡ wrong_sum s.0 i destination }
 {
-    match before {
-        Found::At(k) => {
-            return Found::At(k);
-        }
-        Found::Nowhere => {
-            if is_due(s, i, destination) {
-                return Found::Nowhere;
-            }
-            return Found::At(i as usize);
-        }
+    if is_due(s, i, destination) {
+        None
+    } else {
+        Some(usize::from(i))
     }
 }
 
 // Writes where each node's row and flow begin, and the places that flow; answers the lowest node whose row has a wrong sum (7).
-pub fn survey(
-    h: HeadHeld,
-    count: usize,
-    from: &[u8],
-    fraction: &[u32],
-    starts: &mut [u16],
-    flow_starts: &mut [u16],
-    flow: &mut [u16],
-) -> Found
-    requires { (h.nodes ≤ 64) × (count ≤ 512) × (length from.now ≡ 512) × (length fraction.now ≡ 512) × (length starts.old ≡ 65) × (length flow_starts.old ≡ 65) × (length flow.old ≡ 512) × Sorted h.nodes count from.now }
-    ensures { Surveyed result h count from.now fraction.now starts.new flow_starts.new flow.new }
+pub fn survey(h: SheetHeld, columns: &Columns, rows: &mut RowsHeld) -> Option<usize>
+    requires nodes { h.head.nodes ≤ 64 }
+    requires few { h.links ≤ 512 }
+    requires sorted { Sorted h.head.nodes h.links columns.now.from }
+    ensures { SurveyedIn result h columns.now rows.new }
 {
-    let n = h.nodes;
-    let d = h.destination;
-    let mut wrong = Found::Nowhere;
+    let mut wrong = None;
     let mut k: usize = 0;
     let mut m: usize = 0;
-    let mut i: u8 = 0;
-    starts[0] = 0;
-    flow_starts[0] = 0;
-    while i < n {
-        let row = survey_row(i, k, m, count, from, fraction, flow);
-        wrong = first_wrong(wrong, row.sum, i, d);
+    rows.starts[0] = 0;
+    rows.flow_starts[0] = 0;
+    for i in 0..h.head.nodes {
+        let row = survey_row(
+            i,
+            k,
+            m,
+            h.links,
+            &columns.from,
+            &columns.fraction,
+            &mut rows.flow,
+        );
+        wrong = wrong.or(wrong_sum(row.sum, i, h.head.destination));
         k = row.end;
         m = row.filled;
-        i += 1;
-        let next = i as usize;
-        starts[next] = k as u16;
-        flow_starts[next] = m as u16;
+        let next = usize::from(i) + 1;
+        rows.starts[next] = k as u16;
+        rows.flow_starts[next] = m as u16;
     }
     wrong
 }

@@ -1,4 +1,4 @@
--- What the slices say: each node's desk, a delivery, the outcome.
+-- What the lists say: each node's desk, a delivery, the outcome.
 use Prim.Native.Nat.{ℕ, zero, suc, ◌+◌, ◌-◌, ◌/◌, ◌≤◌, ◌<◌}
 use native.Mathlib.Omega.{arith}
 use native.Mathlib.Decide.{ℕ_discrete, dec_lt}
@@ -168,8 +168,6 @@ module _ {h : SheetHeld} {tr fs ts ls xs ss gs ps os line : List ℕ} (net : Net
     pub row-held : SmallInbox inbox → RowAt i ss gs ps line xs inbox
     row-held small = record {
       node = omega (arith, net.graph.sound.few);
-      starts = net.graph.start-size;
-      flow-starts = net.flow-start_size;
       rise = net.graph.rows.rise i low;
       in_lines = omega (arith, end_in, links-few net.graph, net.line-size);
       in_fractions = omega (arith, end_in, links-few net.graph, net.graph.fraction-size);
@@ -261,5 +259,5 @@ module _ {h : SheetHeld} {tr fs ts ls xs ss gs ps os line : List ℕ} (net : Net
           (ap₂ rises (sym (held-at h.links fs ts ls xs j (omega arith))) (sym (held-at h.links fs ts ls xs k g))
           ∙ rising_at links net.graph.sound.rising j k d (omega (arith, held-length h.links fs ts ls xs)))
 
-  pub lendable : (inbox : List ℕ) → length inbox ≡ 512 → SmallInbox inbox → Lendable h.head.nodes tr ss gs ps line xs inbox
-  lendable inbox z small = record { traffic-size = net.graph.traffic-size; rows = λ i low. row-held net inbox z i low small }
+  pub lendable : (inbox : List ℕ) → length inbox ≡ 512 → SmallInbox inbox → Lendable h.head.nodes ss gs ps line xs inbox
+  lendable inbox z small = record { rows = λ i low. row-held net inbox z i low small }

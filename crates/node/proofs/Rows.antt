@@ -1,4 +1,4 @@
--- What a node's desk answers, in the slices that its row is a part of.
+-- What a node's desk answers, in the lists that its row is a part of.
 use Prim.Native.Nat.{ℕ, zero, suc, ◌+◌, ◌-◌, ◌≤◌, ◌<◌}
 use native.Mathlib.Omega.{arith}
 use native.Mathlib.Decide.{ℕ_discrete}
@@ -16,7 +16,7 @@ use Rattle.desk.specs.declared.Message.{Message}
 use Rattle.desk.specs.Ways.{message_said, ways_from, ways_of, desk_with, Row, Rises}
 use Rattle.network.specs.Rows.{part}
 use Rattle.network.proofs.Rows.{part_length, part-get_or}
-use Rattle.node.specs.Net.{row_part, row_desk, RowAt, Tells, RowsRise, RowTaken, Lendable, Renewed}
+use Rattle.node.specs.Net.{row_part, row_desk, RowAt, Tells, RowsRise, RowTaken, Lendable}
 
 pub ways-length : (i : ℕ) (fs ls xs ks : List ℕ) → length (ways_from i fs ls xs ks) ≡ length fs
 ways-length i [] ls xs ks = refl
@@ -26,11 +26,12 @@ module _ {i : ℕ} {ss gs ps line xs inbox : List ℕ} (row : RowAt i ss gs ps l
   same_wide : (ts : List ℕ) → get_or ss (i + 1) 0 ≤ length ts → length (row_part ss ts i) ≡ length (row_part ss xs i)
   same_wide ts h = part_length ts (get_or ss i 0) (get_or ss (i + 1) 0) h ∙ sym (part_length xs (get_or ss i 0) (get_or ss (i + 1) 0) row.in_fractions)
 
-  pub tells : (r : Message) (s t : ℕ)
-      → ((fs : List ℕ) → length fs ≡ length (row_part ss xs i) → message_said r ≡ message (desk_with s t (ways_of fs (row_part ss line i) (row_part ss xs i) (row_part ss inbox i))))
-      × (r.delay.0 ≤ largest_delay)
+  -- a message that its desk worked out of the parts from a up to e
+  pub tells : (r : Message) (s t : ℕ) {a e : ℕ} → a ≡ get_or ss i 0 → e ≡ get_or ss (i + 1) 0
+      → ((fs : List ℕ) → length fs ≡ length (part xs a e) → message_said r ≡ message (desk_with s t (ways_of fs (part line a e) (part xs a e) (part inbox a e))))
+      → r.delay.0 ≤ largest_delay
       → Tells r s t ss line xs inbox i
-  tells r s t e = record { said = λ ts h. e.0 (row_part ss ts i) (same_wide ts h); small = e.1 }
+  tells r s t p q said small = let own = rw (p, q) at said in record { said = λ ts h. own (row_part ss ts i) (same_wide ts h); small = small }
 
   module _ (s t : ℕ) (ts : List ℕ) (far : RowsRise i ss ts) where
     abbrev a : ℕ
@@ -69,12 +70,14 @@ module _ {i : ℕ} {ss gs ps line xs inbox : List ℕ} (row : RowAt i ss gs ps l
               ∙ ap (λ (x : ℕ). get_or xs x 0) z;
         }
 
-  -- a new row that its desk wrote in place of the old
-  pub row_taken : (s t : ℕ) (ys : List ℕ)
-      → ((fs : List ℕ) → length fs ≡ length (row_part ss xs i) → Rises fs → ys ≡ new_row (desk_with s t (ways_of fs (row_part ss line i) (row_part ss xs i) (row_part ss inbox i))))
+  -- a new row that its desk wrote in place of the old, where it stands from a up to e
+  pub row_taken : (s t : ℕ) (ys : List ℕ) {a e : ℕ} → a ≡ get_or ss i 0 → e ≡ get_or ss (i + 1) 0
+      → ((fs : List ℕ) → length fs ≡ length (part xs a e) → Rises fs → ys ≡ new_row (desk_with s t (ways_of fs (part line a e) (part xs a e) (part inbox a e))))
       → (ts : List ℕ) → RowsRise i ss ts
-      → RowTaken ss i xs (new_row (row_desk s t ss ts line xs inbox i)) (put_mid (get_or ss i 0) (get_or ss (i + 1) 0 - get_or ss i 0) xs ys)
-  row_taken s t ys h ts far = put_row s t ts far ys (h (row_part ss ts i) (same_wide ts far.inside) far.rises)
+      → RowTaken ss i xs (new_row (row_desk s t ss ts line xs inbox i)) (put_mid a (e - a) xs ys)
+  row_taken s t ys p q h ts far =
+      let own = rw (p, q) at h in
+      rw (p, q) (put_row s t ts far ys (own (row_part ss ts i) (same_wide ts far.inside) far.rises))
 
 -- ---- row after row
 -- there are far nodes that rise
@@ -119,10 +122,7 @@ pub record Taken (k s n : ℕ) (tr ss line xs inbox ys : List ℕ) : Type 0 wher
   pub done : (ts : List ℕ) → ((i : ℕ) → i < n → RowsRise i ss ts) → (i p : ℕ) → i < k → p < get_or ss (i + 1) 0 - get_or ss i 0
       → get_or ys (get_or ss i 0 + p) 0 ≡ get_or (new_row (row_desk s (get_or tr i 0) ss ts line xs inbox i)) p 0
 
-pub taken_none : (s n : ℕ) (tr ss line xs inbox : List ℕ) → Taken 0 s n tr ss line xs inbox xs
-taken_none s n tr ss line xs inbox = record { long = refl; rest = λ p h. refl; done = λ ts far i p b. absurd (omega arith) }
-
-module _ {s n : ℕ} {tr ss gs ps line xs inbox : List ℕ} (lent : Lendable n tr ss gs ps line xs inbox) {k : ℕ} {ys : List ℕ}
+module _ {s n : ℕ} {tr ss gs ps line xs inbox : List ℕ} (lent : Lendable n ss gs ps line xs inbox) {k : ℕ} {ys : List ℕ}
     (t : Taken k s n tr ss line xs inbox ys) (b : k < n) where
   row_as_was : row_part ss ys k ≡ row_part ss xs k
   row_as_was = part_same xs ys (get_or ss k 0) (get_or ss (k + 1) 0) t.long (lent.rows k b).in_fractions t.rest
@@ -133,8 +133,6 @@ module _ {s n : ℕ} {tr ss gs ps line xs inbox : List ℕ} (lent : Lendable n t
       let r = lent.rows k b in
       record {
         node = r.node;
-        starts = r.starts;
-        flow-starts = r.flow-starts;
         rise = r.rise;
         in_lines = r.in_lines;
         in_fractions = omega (arith, r.in_fractions, t.long);
@@ -169,7 +167,3 @@ module _ {s n : ℕ} {tr ss gs ps line xs inbox : List ℕ} (lent : Lendable n t
           (λ l. (new ts (far k b)).inside p l
           ∙ ap (λ (row : List ℕ). get_or (new_row (desk_with s (get_or tr k 0) (ways_of (row_part ss ts k) (row_part ss line k) row (row_part ss inbox k)))) p 0) row_as_was)
           d
-
-pub taken_all : {k s n : ℕ} {tr ss line xs inbox ys : List ℕ} → Taken k s n tr ss line xs inbox ys → k ≡ n
-    → (ts : List ℕ) → ((i : ℕ) → i < n → RowsRise i ss ts) → Renewed s n tr ss ts line xs inbox ys
-taken_all t e ts far = record { long = t.long; rows = λ i p b c. t.done ts far i p (omega arith) c }

@@ -1,4 +1,4 @@
-// A node at its desk: its row is lent to crates/desk as parts of the slices that hold the sheet, and nothing else of them.
+// A node at its desk: its row is lent to crates/desk as parts of the columns that hold the sheet, and nothing else of them.
 // The calculation and the messages both go through these functions.
 #![tactic(auto)]
 
@@ -6,38 +6,113 @@ ghost use Rattle.std.specs.Prelude.{◌≡◌, List, ℕ, ◌+◌, ◌≤◌, �
 ghost use Rattle.rules.specs.Sheet.{largest_step, largest_delay};
 ghost use Rattle.rules.specs.Desk.{message, new_row};
 ghost use Rattle.desk.specs.Ways.{message_said};
-ghost use Rattle.node.specs.Net.{row_desk, RowAt, Tells, RowsRise, RowTaken, Lendable, Renewed};
+ghost use Rattle.node.specs.Net.{row_desk, RowAt, Tells, RowsRise, RowTaken, Lendable, Renewed, net_of, unordered, no_net};
 
 use desk::Message;
+use network::{RowsHeld, RowsLent};
 use numbers::{Step, Traffic};
+use order::OrderHeld;
+use sheet::{Columns, SheetHeld};
+
+// An accepted sheet, with all that its calls work out of it once.
+#[derive(Drop)]
+pub struct NetHeld {
+    pub columns: Columns,
+    pub rows: RowsHeld,
+    pub opposite: [u16; 512],
+    pub order: OrderHeld,
+}
+
+impl NetHeld {
+    #[tactic(auto, unfolding(crate::specs::Net::no_net))]
+    pub fn new() -> NetHeld
+        ensures { result ≡ no_net }
+    {
+        NetHeld {
+            columns: Columns::new(),
+            rows: RowsHeld::new(),
+            opposite: [0; 512],
+            order: OrderHeld::new(),
+        }
+    }
+}
+
+// The same as it is lent to a round, with its lines' delays.
+#[derive(Clone, Copy)]
+pub struct NetLent<'a> {
+    pub columns: &'a Columns,
+    pub rows: RowsLent<'a>,
+    pub opposite: &'a [u16; 512],
+    pub line: &'a [u32],
+}
+
+impl NetHeld {
+    // Lent to a round, with these lines' delays.
+    pub fn lend<'a>(&'a self, line: &'a [u32]) -> NetLent<'a>
+        ensures net { net_of result ≡ unordered self.now }
+        ensures line { result.line.now ≡ line.now }
+    {
+        let RowsHeld {
+            starts,
+            flow_starts,
+            flow,
+        } = &self.rows;
+        NetLent {
+            columns: &self.columns,
+            rows: RowsLent {
+                starts,
+                flow_starts,
+                flow,
+            },
+            opposite: &self.opposite,
+            line,
+        }
+    }
+}
+
+// A part of a column: a row's places in the links, or its flowing places.
+#[derive(Clone, Copy)]
+struct Part {
+    start: usize,
+    end: usize,
+}
+
+// Node i's part, where the next node's begins as its own ends.
+fn part_at(starts: &[u16; 65], i: u8) -> Part
+    requires { i < 64 }
+    ensures start { result.start ≡ get_or starts.now i 0 }
+    ensures end { result.end ≡ get_or starts.now (i + 1) 0 }
+{
+    let k = usize::from(i);
+    Part {
+        start: usize::from(starts[k]),
+        end: usize::from(starts[k + 1]),
+    }
+}
 
 // What node i tells: its delay and its mark.
 pub fn message_of(
     s: Step,
     t: Traffic,
     i: u8,
-    starts: &[u16],
-    flow_starts: &[u16],
-    flow: &[u16],
+    rows: &RowsLent<'_>,
     line: &[u32],
     fraction: &[u32],
     inbox: &[u32],
 ) -> Message
-    requires { RowAt i starts.now flow_starts.now flow.now line.now fraction.now inbox.now × (s.0 ≤ largest_step) }
-    ensures { Tells result s.0 t.0 starts.now line.now fraction.now inbox.now i }
+    requires row { RowAt i rows.now.starts.now rows.now.flow_starts.now rows.now.flow.now line.now fraction.now inbox.now }
+    requires step { s.0 ≤ largest_step }
+    ensures { Tells result s.0 t.0 rows.now.starts.now line.now fraction.now inbox.now i }
 {
-    let k = i as usize;
-    let a = starts[k] as usize;
-    let e = starts[k + 1] as usize;
-    let f = flow_starts[k] as usize;
-    let g = flow_starts[k + 1] as usize;
+    let p = part_at(rows.starts, i);
+    let f = part_at(rows.flow_starts, i);
     desk::row_message(
         s,
         t,
-        &line[a..e],
-        &fraction[a..e],
-        &inbox[a..e],
-        &flow[f..g],
+        &line[p.start..p.end],
+        &fraction[p.start..p.end],
+        &inbox[p.start..p.end],
+        &rows.flow[f.start..f.end],
     )
 }
 
@@ -46,62 +121,44 @@ fn take_row(
     s: Step,
     t: Traffic,
     i: u8,
-    starts: &[u16],
-    flow_starts: &[u16],
-    flow: &[u16],
+    rows: &RowsLent<'_>,
     line: &[u32],
     inbox: &[u32],
     fraction: &mut [u32],
 )
-    requires { RowAt i starts.now flow_starts.now flow.now line.now fraction.old inbox.now × (s.0 ≤ largest_step) }
-    ensures { (ts : List ℕ) → RowsRise i starts.now ts
-        → RowTaken starts.now i fraction.old (new_row (row_desk s.0 t.0 starts.now ts line.now fraction.old inbox.now i)) fraction.new }
+    requires row { RowAt i rows.now.starts.now rows.now.flow_starts.now rows.now.flow.now line.now fraction.old inbox.now }
+    requires step { s.0 ≤ largest_step }
+    ensures { (ts : List ℕ) → RowsRise i rows.now.starts.now ts
+        → RowTaken rows.now.starts.now i fraction.old (new_row (row_desk s.0 t.0 rows.now.starts.now ts line.now fraction.old inbox.now i)) fraction.new }
 {
-    let k = i as usize;
-    let a = starts[k] as usize;
-    let e = starts[k + 1] as usize;
-    let f = flow_starts[k] as usize;
-    let g = flow_starts[k + 1] as usize;
+    let p = part_at(rows.starts, i);
+    let f = part_at(rows.flow_starts, i);
     desk::new_row(
         s,
         t,
-        &line[a..e],
-        &inbox[a..e],
-        &flow[f..g],
-        &mut fraction[a..e],
+        &line[p.start..p.end],
+        &inbox[p.start..p.end],
+        &rows.flow[f.start..f.end],
+        &mut fraction[p.start..p.end],
     );
 }
 
 // Every node's new row.
 pub fn take_rows(
-    s: Step,
-    n: u8,
-    traffic: &[u32],
-    starts: &[u16],
-    flow_starts: &[u16],
-    flow: &[u16],
+    h: SheetHeld,
+    traffic: &[u32; 64],
+    rows: &RowsLent<'_>,
     line: &[u32],
     inbox: &[u32],
     fraction: &mut [u32],
 )
-    requires { Lendable n traffic.now starts.now flow_starts.now flow.now line.now fraction.old inbox.now × (s.0 ≤ largest_step) }
-    ensures { (ts : List ℕ) → ((i : ℕ) → i < n → RowsRise i starts.now ts)
-        → Renewed s.0 n traffic.now starts.now ts line.now fraction.old inbox.now fraction.new }
+    requires rows { Lendable h.head.nodes rows.now.starts.now rows.now.flow_starts.now rows.now.flow.now line.now fraction.old inbox.now }
+    requires step { h.head.step.0 ≤ largest_step }
+    ensures { (ts : List ℕ) → ((i : ℕ) → i < h.head.nodes → RowsRise i rows.now.starts.now ts)
+        → Renewed h.head.step.0 h.head.nodes traffic.now rows.now.starts.now ts line.now fraction.old inbox.now fraction.new }
 {
-    let mut i: u8 = 0;
-    while i < n {
-        let k = i as usize;
-        take_row(
-            s,
-            Traffic(traffic[k]),
-            i,
-            starts,
-            flow_starts,
-            flow,
-            line,
-            inbox,
-            fraction,
-        );
-        i += 1;
+    for i in 0..h.head.nodes {
+        let t = Traffic(traffic[usize::from(i)]);
+        take_row(h.head.step, t, i, rows, line, inbox, fraction);
     }
 }

@@ -1,89 +1,110 @@
 // The kinds of number: a fraction, a delay, a traffic figure and a step, each a type of its own with its bound.
 #![tactic(auto)]
 
-ghost use Rattle.std.specs.Prelude.{◌≡◌, ◌≤◌, length};
+ghost use Rattle.std.specs.Prelude.{◌≡◌, ◌+◌, ◌-◌, ◌^◌, ◌≤◌, ◌<◌, length};
 ghost use Rattle.rules.specs.Sheet.{line_delay};
 ghost use Rattle.numbers.specs.Kinds.{fraction_of, step_of, delay_of};
-ghost use Rattle.numbers.specs.Lines.{Table, LinesOf};
+ghost use Rattle.numbers.specs.Lines.{LinesOf};
+
+use std::ops::{Add, AddAssign, Sub};
 
 // A share of a node's traffic, in units of 1 / 65,536.
-#[derive(Clone, Copy)]
+#[derive(Clone, Copy, Debug, Default, PartialEq, Eq, PartialOrd, Ord)]
 pub struct Fraction(pub u32);
 
 // A marginal delay.
-#[derive(Clone, Copy)]
+#[derive(Clone, Copy, Debug, Default, PartialEq, Eq, PartialOrd, Ord)]
 pub struct Delay(pub u32);
 
 // A node's traffic. Every value is allowed.
-#[derive(Clone, Copy)]
+#[derive(Clone, Copy, Debug, Default, PartialEq, Eq, PartialOrd, Ord)]
 pub struct Traffic(pub u32);
 
-// The step of a round.
-#[derive(Clone, Copy)]
+// The step of a round. 0 is no step, so it has no default.
+#[derive(Clone, Copy, Debug, PartialEq, Eq, PartialOrd, Ord)]
 pub struct Step(pub u32);
 
-#[derive(Clone, Copy)]
-pub enum FractionRead {
-    Good(Fraction),
-    Beyond,
-}
-
-#[derive(Clone, Copy)]
-pub enum DelayRead {
-    Good(Delay),
-    Beyond,
-}
-
-#[derive(Clone, Copy)]
-pub enum StepRead {
-    Good(Step),
-    Beyond,
-}
-
+// The three `new` differ in their type and their bounds; a trait for them would have as many lines.
 impl Fraction {
     pub const WHOLE: Fraction = Fraction(65536);
 
-    pub fn new(x: u32) -> FractionRead
+    pub fn new(x: u32) -> Option<Fraction>
         ensures { result ≡ fraction_of x }
     {
-        if x <= Fraction::WHOLE.0 {
-            FractionRead::Good(Fraction(x))
-        } else {
-            FractionRead::Beyond
-        }
+        let f = Fraction(x);
+        (f <= Fraction::WHOLE).then_some(f)
+    }
+}
+
+impl Add for Fraction {
+    type Output = Fraction;
+
+    ghost can_add = { λ a b. a.0 + b.0 < 2 ^ 32 };
+
+    ghost add_gives = { λ a b r. r.0 ≡ a.0 + b.0 };
+
+    fn add(self, more: Fraction) -> Fraction {
+        Fraction(self.0 + more.0)
+    }
+}
+
+impl AddAssign for Fraction {
+    ghost can_add_assign = { λ a b. a.0 + b.0 < 2 ^ 32 };
+
+    ghost add_assign_gives = { λ a b r. r.0 ≡ a.0 + b.0 };
+
+    fn add_assign(&mut self, more: Fraction) {
+        *self = *self + more;
+    }
+}
+
+impl Sub for Fraction {
+    type Output = Fraction;
+
+    ghost can_sub = { λ a b. b.0 ≤ a.0 };
+
+    ghost sub_gives = { λ a b r. r.0 ≡ a.0 - b.0 };
+
+    fn sub(self, part: Fraction) -> Fraction {
+        Fraction(self.0 - part.0)
     }
 }
 
 impl Step {
     pub const LARGEST: Step = Step(1048576);
 
-    pub fn new(x: u32) -> StepRead
+    pub fn new(x: u32) -> Option<Step>
         ensures { result ≡ step_of x }
     {
-        if 1 <= x {
-            if x <= Step::LARGEST.0 {
-                return StepRead::Good(Step(x));
-            }
-        }
-        StepRead::Beyond
+        let s = Step(x);
+        (Step(1) <= s && s <= Step::LARGEST).then_some(s)
     }
 }
 
 impl Delay {
     pub const LARGEST: Delay = Delay(67108864);
 
-    pub fn new(x: u32) -> DelayRead
+    pub fn new(x: u32) -> Option<Delay>
         ensures { result ≡ delay_of x }
     {
-        if x <= Delay::LARGEST.0 {
-            DelayRead::Good(Delay(x))
-        } else {
-            DelayRead::Beyond
-        }
+        let d = Delay(x);
+        (d <= Delay::LARGEST).then_some(d)
     }
 }
 
-const LINE_DELAYS: [u32; 256] = [
+impl Add for Delay {
+    type Output = Delay;
+
+    ghost can_add = { λ a b. a.0 + b.0 < 2 ^ 32 };
+
+    ghost add_gives = { λ a b r. r.0 ≡ a.0 + b.0 };
+
+    fn add(self, more: Delay) -> Delay {
+        Delay(self.0 + more.0)
+    }
+}
+
+static LINE_DELAYS: [u32; 256] = [
     16, 16, 16, 16, 16, 16, 16, 16, 17, 17, 17, 17, 17, 17, 17, 18, 18, 18, 18, 18, 18, 18, 19, 19,
     19, 19, 19, 19, 20, 20, 20, 20, 20, 21, 21, 21, 21, 21, 22, 22, 22, 22, 22, 23, 23, 23, 23, 24,
     24, 24, 24, 24, 25, 25, 25, 25, 26, 26, 26, 27, 27, 27, 27, 28, 28, 28, 29, 29, 29, 29, 30, 30,
@@ -99,13 +120,11 @@ const LINE_DELAYS: [u32; 256] = [
     65536, 116508, 262144, 1048576,
 ];
 
-// D' at a load step, from the table, which a caller keeps in a local and lends: indexing the constant would build it anew each time.
-pub fn line_delay(table: &[u32], load: u8) -> Delay
-    requires { Table table.now }
+// D' at a load step.
+pub fn line_delay(load: u8) -> Delay
     ensures { result.0 ≡ line_delay load }
 {
-    let k = load as usize;
-    Delay(table[k])
+    Delay(LINE_DELAYS[load as usize])
 }
 
 // The delay of each line, from its load step.
@@ -113,11 +132,7 @@ pub fn write_line_delays(loads: &[u8], lines: &mut [u32])
     requires { length loads.now ≤ length lines.old }
     ensures { LinesOf loads.now lines.old lines.new }
 {
-    let table = LINE_DELAYS;
-    let mut j: usize = 0;
-    while j < loads.len() {
-        let d = line_delay(&table, loads[j]);
-        lines[j] = d.0;
-        j += 1;
+    for (j, &load) in loads.iter().enumerate() {
+        lines[j] = line_delay(load).0;
     }
 }

@@ -1,4 +1,3 @@
-pub mod Walking
 pub mod Flowing
 pub mod Taking
 pub mod Loops

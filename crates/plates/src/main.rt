@@ -19,28 +19,43 @@ struct Plate {
     fraction_21: u32,
 }
 
-fn low(x: u32) -> u8 {
-    (x % 256) as u8
-}
+const PLATE_A: Plate = Plate {
+    step: 64,
+    traffic_1: 2,
+    traffic_2: 5,
+    load_10: 192,
+    load_20: 0,
+    fraction_10: 65536,
+    fraction_12: 0,
+    fraction_20: 65536,
+    fraction_21: 0,
+};
+
+const PLATE_B: Plate = Plate {
+    step: 256,
+    traffic_1: 1,
+    traffic_2: 100,
+    load_10: 0,
+    load_20: 192,
+    fraction_10: 32768,
+    fraction_12: 32768,
+    ..PLATE_A
+};
 
 // A number of four bytes has the high byte first.
-fn put_four<W: Write>(out: &mut W, x: u32) -> io::Result<()> {
-    out.write_all(&[low(x / 16777216), low(x / 65536), low(x / 256), low(x)])
-}
-
 fn put_head<W: Write>(out: &mut W, step: u32) -> io::Result<()> {
     out.write_all(&[1, 3, 0])?;
-    put_four(out, step)
+    out.write_all(&step.to_be_bytes())
 }
 
 fn put_node<W: Write>(out: &mut W, node: u8, traffic: u32) -> io::Result<()> {
     out.write_all(&[2, node])?;
-    put_four(out, traffic)
+    out.write_all(&traffic.to_be_bytes())
 }
 
 fn put_link<W: Write>(out: &mut W, from: u8, to: u8, load: u8, fraction: u32) -> io::Result<()> {
     out.write_all(&[3, from, to, load])?;
-    put_four(out, fraction)
+    out.write_all(&fraction.to_be_bytes())
 }
 
 fn put_plate<W: Write>(out: &mut W, p: Plate) -> io::Result<()> {
@@ -66,55 +81,26 @@ fn save<R: Files + Print + Eprint>(rt: &R, path: &str, p: Plate) -> io::Result<(
     }
 }
 
-// Plate A, but for the traffic of node 1.
-fn plate_a(traffic_1: u32) -> Plate {
-    Plate {
-        step: 64,
-        traffic_1,
-        traffic_2: 5,
-        load_10: 192,
-        load_20: 0,
-        fraction_10: 65536,
-        fraction_12: 0,
-        fraction_20: 65536,
-        fraction_21: 0,
-    }
-}
-
-// Plate B, but for the step.
-fn plate_b(step: u32) -> Plate {
-    Plate {
-        step,
-        traffic_1: 1,
-        traffic_2: 100,
-        load_10: 0,
-        load_20: 192,
-        fraction_10: 32768,
-        fraction_12: 32768,
-        fraction_20: 65536,
-        fraction_21: 0,
-    }
-}
-
-// Plate A with nodes 1 and 2 sending all to each other, which Check refuses: 8 at 1.
-fn plate_a_looped() -> Plate {
-    Plate {
-        step: 64,
-        traffic_1: 2,
-        traffic_2: 5,
-        load_10: 192,
-        load_20: 0,
+// A still plate, a step too many, and nodes 1 and 2 sending all to each other, which Check refuses: 8 at 1.
+fn main(rt: HostRuntime) -> io::Result<()> {
+    let still = Plate {
+        traffic_1: 0,
+        ..PLATE_A
+    };
+    let too_long = Plate {
+        step: 257,
+        ..PLATE_B
+    };
+    let looped = Plate {
         fraction_10: 0,
         fraction_12: 65536,
         fraction_20: 0,
         fraction_21: 65536,
-    }
-}
-
-fn main(rt: HostRuntime) -> io::Result<()> {
-    save(&rt, "plate_a.sheet", plate_a(2))?;
-    save(&rt, "plate_a_still.sheet", plate_a(0))?;
-    save(&rt, "plate_b.sheet", plate_b(256))?;
-    save(&rt, "plate_b_257.sheet", plate_b(257))?;
-    save(&rt, "plate_a_looped.sheet", plate_a_looped())
+        ..PLATE_A
+    };
+    save(&rt, "plate_a.sheet", PLATE_A)?;
+    save(&rt, "plate_a_still.sheet", still)?;
+    save(&rt, "plate_b.sheet", PLATE_B)?;
+    save(&rt, "plate_b_257.sheet", too_long)?;
+    save(&rt, "plate_a_looped.sheet", looped)
 }

@@ -10,16 +10,17 @@ use Rattle.rules.specs.Check.{check}
 use Rattle.rules.specs.Calls.{play_reply, frame_reply}
 use Rattle.rules.proofs.Reading.{check_holds}
 use Rattle.sheet.specs.declared.SheetHeld.{SheetHeld}
-use Rattle.sheet.specs.Held.{sheet_said}
+use Rattle.sheet.specs.Held.{sheet_in}
+use Rattle.node.specs.declared.NetHeld.{NetHeld}
 use Rattle.admit.specs.Opened.{Ready}
 use Rattle.play.specs.Replies.{played, framed}
 
-module _ {h : SheetHeld} {b tr fs ts ls xs ss gs ps os ord turn : List ℕ} (ready : Ready h b tr fs ts ls xs ss gs ps os ord turn) where
+module _ {h : SheetHeld} {b : List ℕ} {net : NetHeld} (ready : Ready h b net) where
   abbrev s : Sheet
-  s = sheet_said h tr fs ts ls xs
+  s = sheet_in h net.columns
 
   ready-check : check b ≡ accepted s
-  ready-check = subst (λ (x : List ℕ). check x ≡ accepted s) ready.stand (check_holds s ready.graph.sound)
+  ready-check = subst (λ (x : List ℕ). check x ≡ accepted s) ready.stand (check_holds s ready.held.graph.sound)
 
   pub play_reply_lem : (js : List ℕ) (have : ℕ) → length b ≤ have → play_reply b js have ≡ played s js
   play_reply_lem js have room = rw (ready-check, le-ltb have (length b) room)

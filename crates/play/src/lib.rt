@@ -2,207 +2,80 @@
 #![tactic(auto)]
 
 ghost use Rattle.std.specs.Prelude.{◌≡◌, ◌*◌, ◌≤◌, length};
-ghost use Rattle.node.specs.Net.{Empty};
-ghost use Rattle.play.specs.Played.{Accepted, AnyAccepted, Lined, Takable, Ended, Played, Framed};
+ghost use Rattle.rules.specs.Sheet.{largest_step};
+ghost use Rattle.sheet.specs.Held.{WriteAsked};
+ghost use Rattle.node.specs.Net.{Lendable};
+ghost use Rattle.play.specs.Played.{Accepted, AnyAccepted, Ended, Played, Framed};
 
-use messages::Ran;
+use answers::{Answer, Fault, Refusal};
+use messages::StateHeld;
+use node::{NetHeld, NetLent};
 use sheet::SheetHeld;
 
-// Number 0 and the value answered, or a refusal's number and its place.
-#[derive(Clone, Copy)]
-pub struct Said {
-    pub number: u8,
-    pub value: usize,
-}
-
-// The lines' delays, and over them the list from the beginning.
-fn run_lines(
-    list: &[u16],
-    h: SheetHeld,
-    traffic: &[u32],
-    from: &[u8],
-    to: &[u8],
-    load: &[u8],
-    starts: &[u16],
-    flow_starts: &[u16],
-    flow: &[u16],
-    fraction: &[u32],
-    opposite: &[u16],
-    line: &mut [u32],
-    inbox: &mut [u32],
-    quiet: &mut [u32],
-) -> Ran
-    requires { AnyAccepted h traffic.now from.now load.now fraction.now starts.now flow_starts.now flow.now opposite.now × Empty line.old × Empty inbox.old × (length quiet.old ≡ 64) × (length to.now ≡ 512) }
-    ensures { Lined result h list.now traffic.now from.now load.now fraction.now starts.now flow_starts.now flow.now opposite.now line.new inbox.new quiet.new }
-{
-    let count = h.links;
-    numbers::write_line_delays(&load[..count], line);
-    messages::run_list(
-        h,
-        list,
-        traffic,
-        from,
-        to,
-        load,
-        starts,
-        flow_starts,
-        flow,
-        line,
-        fraction,
-        opposite,
-        inbox,
-        quiet,
-    )
-}
-
-// The list is through: 11 where it ended early, else every node takes its new row from what it has heard, and the sheet is written.
+// The list is through: 11 where it ended early, else every node takes its new row, in place of a copy of the old, from what it has heard,
+// and the sheet is written.
 fn end_play(
     b: &[u8],
     js: &[u16],
     h: SheetHeld,
-    traffic: &[u32],
-    starts: &[u16],
-    flow_starts: &[u16],
-    flow: &[u16],
-    line: &[u32],
-    inbox: &[u32],
-    fraction: &mut [u32],
+    net: &NetLent<'_>,
+    inbox: &[u32; 512],
+    fraction: &mut [u32; 512],
     out: &mut [u8],
-) -> Said
-    requires { Takable h b.now traffic.now starts.now flow_starts.now flow.now line.now inbox.now fraction.old out.old }
-    ensures { Ended result h b.now js.now traffic.now starts.now flow_starts.now flow.now line.now inbox.now fraction.old out.old out.new }
+) -> Answer
+    requires rows { Lendable h.head.nodes net.now.rows.starts.now net.now.rows.flow_starts.now net.now.rows.flow.now net.now.line.now fraction.old inbox.now }
+    requires step { h.head.step.0 ≤ largest_step }
+    requires room { WriteAsked h b.now out.old }
+    ensures { Ended result h b.now js.now net.now.columns.now.traffic net.now.rows.starts.now net.now.rows.flow_starts.now net.now.rows.flow.now net.now.line.now inbox.now fraction.old out.old out.new }
 {
-    let value = js.len();
-    if value < h.links {
-        return Said { number: 11, value };
+    if js.len() < h.links {
+        return Err(Refusal {
+            fault: Fault::ListEnds,
+            place: js.len(),
+        });
     }
-    node::take_rows(
-        h.head.step,
-        h.head.nodes,
-        traffic,
-        starts,
-        flow_starts,
-        flow,
-        line,
-        inbox,
-        fraction,
-    );
-    sheet::write_fractions(b, h.head, h.links, fraction, out);
-    let value = b.len();
-    Said { number: 0, value }
+    let traffic = &net.columns.traffic;
+    node::take_rows(h, traffic, &net.rows, net.line, inbox, fraction);
+    sheet::write_fractions(b, h, fraction, out);
+    Ok(b.len())
 }
 
 // Play: 12 and 10 in the list, then its end.
-pub fn play_accepted(
-    b: &[u8],
-    js: &[u16],
-    h: SheetHeld,
-    traffic: &[u32],
-    from: &[u8],
-    to: &[u8],
-    load: &[u8],
-    starts: &[u16],
-    flow_starts: &[u16],
-    flow: &[u16],
-    opposite: &[u16],
-    fraction: &mut [u32],
-    out: &mut [u8],
-) -> Said
-    requires { Accepted h b.now traffic.now from.now load.now fraction.old starts.now flow_starts.now flow.now opposite.now × (length b.now ≤ length out.old) × (length to.now ≡ 512) }
-    ensures { Played result h b.now js.now traffic.now from.now load.now fraction.old starts.now flow_starts.now flow.now opposite.now out.old out.new }
+pub fn play_accepted(b: &[u8], js: &[u16], h: SheetHeld, net: &NetHeld, out: &mut [u8]) -> Answer
+    requires ready { Accepted h b.now net.now }
+    requires room { length b.now ≤ length out.old }
+    ensures { Played result h b.now js.now net.now out.old out.new }
 {
     let mut line = [0u32; 512];
-    let mut inbox = [0u32; 512];
-    let mut quiet = [0u32; 64];
-    let ran = run_lines(
-        js,
-        h,
-        traffic,
-        from,
-        to,
-        load,
-        starts,
-        flow_starts,
-        flow,
-        fraction,
-        opposite,
-        &mut line,
-        &mut inbox,
-        &mut quiet,
-    );
-    match ran {
-        Ran::Stopped(number, value) => Said { number, value },
-        Ran::Left(_) => end_play(
-            b,
-            js,
-            h,
-            traffic,
-            starts,
-            flow_starts,
-            flow,
-            &line,
-            &inbox,
-            fraction,
-            out,
-        ),
-    }
+    numbers::write_line_delays(&net.columns.load[..h.links], &mut line);
+    let lent = net.lend(&line);
+    let mut state = StateHeld::new();
+    messages::run_list(h, js, &lent, &mut state)?;
+    let mut fraction = net.columns.fraction;
+    end_play(b, js, h, &lent, &state.inbox, &mut fraction, out)
 }
 
-// Frame: its list may stop early, and six bytes a node are written of the state that it leaves.
-pub fn frame_accepted(
-    js: &[u16],
-    h: SheetHeld,
-    traffic: &[u32],
-    from: &[u8],
-    to: &[u8],
-    load: &[u8],
-    starts: &[u16],
-    flow_starts: &[u16],
-    flow: &[u16],
-    fraction: &[u32],
-    opposite: &[u16],
-    out: &mut [u8],
-) -> Said
-    requires { AnyAccepted h traffic.now from.now load.now fraction.now starts.now flow_starts.now flow.now opposite.now × (6 * h.head.nodes ≤ length out.old) × (length to.now ≡ 512) }
-    ensures { Framed result h js.now traffic.now from.now load.now fraction.now starts.now flow_starts.now flow.now opposite.now out.old out.new }
+// Frame: its list may stop early, and six bytes a node are written of the state that it leaves. It begins as Play does; a function for
+// that would take both arrays to lend from, and be no shorter.
+pub fn frame_accepted(js: &[u16], h: SheetHeld, net: &NetHeld, out: &mut [u8]) -> Answer
+    requires accepted { AnyAccepted h net.now }
+    requires room { 6 * h.head.nodes ≤ length out.old }
+    ensures { Framed result h js.now net.now out.old out.new }
 {
     let mut line = [0u32; 512];
-    let mut inbox = [0u32; 512];
-    let mut quiet = [0u32; 64];
-    let ran = run_lines(
-        js,
+    numbers::write_line_delays(&net.columns.load[..h.links], &mut line);
+    let lent = net.lend(&line);
+    let mut state = StateHeld::new();
+    messages::run_list(h, js, &lent, &mut state)?;
+    frames::write_frames(
         h,
-        traffic,
-        from,
-        to,
-        load,
-        starts,
-        flow_starts,
-        flow,
-        fraction,
-        opposite,
-        &mut line,
-        &mut inbox,
-        &mut quiet,
+        &net.columns.traffic,
+        &lent.rows,
+        lent.line,
+        &net.columns.fraction,
+        &state.inbox,
+        &state.quiet,
+        out,
     );
-    match ran {
-        Ran::Stopped(number, value) => Said { number, value },
-        Ran::Left(_) => {
-            frames::write_frames(
-                h,
-                traffic,
-                starts,
-                flow_starts,
-                flow,
-                &line,
-                fraction,
-                &inbox,
-                &quiet,
-                out,
-            );
-            let nodes = h.head.nodes as usize;
-            let value = 6 * nodes;
-            Said { number: 0, value }
-        }
-    }
+    Ok(6 * usize::from(h.head.nodes))
 }

@@ -1,14 +1,15 @@
-// What the programs share: standard input as bytes, bytes of a sheet or a frame as numbers to print, and the line of a refusal.
+// What the programs share: standard input as bytes, and the records of a sheet.
 #![tactic(auto)]
 
-ghost use Rattle.std.specs.Prelude.{◌≤◌, ◌<◌, length, take, IfOk};
+ghost use Rattle.std.specs.Prelude.{◌≡◌, ◌+◌, ◌*◌, ◌≤◌, ◌<◌, length, take, drop, get_or, IfOk};
+ghost use Rattle.printing.specs.Records.{records};
 ghost use Rattle.std.specs.Io.KnownBytes.{Consumes, IsAtEnd};
 
-use answers::Refusal;
 use std::io;
 use std::io::Read;
 
-// Fills the buffer, as far as what is read goes; answers how many bytes there were.
+// Fills the buffer, as far as what is read goes; answers how many bytes there were. The library has no such read: `read_exact` refuses a
+// shorter input, and `read_to_end` takes memory from the heap.
 pub fn fill<R: Read>(reader: &mut R, buf: &mut [u8]) -> io::Result<usize>
     ensures bound { IfOk result (λ n. n ≤ length buf.new) }
     ensures bytes { IfOk result (λ n. Consumes (R.remaining reader.old) (R.remaining reader.new) (take n buf.new)) }
@@ -32,38 +33,18 @@ pub fn read_full<R: Input>(rt: &R, buf: &mut [u8]) -> io::Result<usize>
     fill(&mut rt.reader(), buf)
 }
 
-// Answering 0 past the end spares every reader a condition on the bytes.
-pub fn byte_at(s: &[u8], i: usize) -> u8 {
-    if i < s.len() {
-        return s[i];
-    }
-    0
-}
-
-// A byte as a number to print.
-pub fn wide(x: u8) -> u64
-    ensures { result ≤ 255 }
+// How many nodes a sheet says that it has; 0 where it ends before that.
+pub fn nodes(sheet: &[u8]) -> usize
+    ensures { result ≡ get_or sheet.now 1 0 }
 {
-    x as u64
+    usize::from(sheet.get(1).copied().unwrap_or(0))
 }
 
-// A byte as a count.
-pub fn whole(x: u8) -> usize
-    ensures { result ≤ 255 }
+// The whole link records of a sheet, 8 bytes each: they stand behind the head, 7 bytes, and the nodes, 6 bytes each.
+pub fn links(sheet: &[u8]) -> &[[u8; 8]]
+    ensures { result.now ≡ records 8 (drop (7 + 6 * get_or sheet.now 1 0) sheet.now) }
 {
-    x as usize
-}
-
-// A number of four bytes has the high byte first.
-pub fn joined(a: u8, b: u8, c: u8, d: u8) -> u64 {
-    wide(a) * 16777216 + wide(b) * 65536 + wide(c) * 256 + wide(d)
-}
-
-// One line: the number and the place.
-pub fn print_refusal(rt: &impl Print, r: Refusal) -> io::Result<()> {
-    rt.write_all(b"refused ")?;
-    rt.print(answers::number_of(r))?;
-    rt.write_all(b" at ")?;
-    rt.print(answers::place_of(r))?;
-    rt.write_all(b"\n")
+    let first = 7 + 6 * nodes(sheet);
+    let rest = sheet.get(first..).unwrap_or(&[]);
+    rest.as_chunks().0
 }

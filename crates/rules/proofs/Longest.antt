@@ -9,7 +9,7 @@ use mathlib.Core.List.Memᴰ.{append_cases}
 use mathlib.Core.List.Memᴰ.{head as here}
 use mathlib.Core.List.Memᴰ.{tail as there}
 use mathlib.Core.List.{List, [], ◌∷◌, ◌++◌, map, Memᴰ as In}
-use mathlib.Core.Option.{Option, none, some}
+use Rattle.std.specs.Prelude.{Option, None, Some}
 use lib.ListN.{length, replicate}
 use lib.Dec.{ltb, leb, eqb}
 use borrow.Author.Tests.{ltb-true, eqb-true}
@@ -79,9 +79,9 @@ ringed l m = of_rows (below 64) (λ i n. in_below 64 n) m
 -- ---- what is computed
 abbrev chained : Option Link → List Link → Bool
 chained before [] = true
-chained before (l ∷ ls) = follows before l && chained (some l) ls
+chained before (l ∷ ls) = follows before l && chained (Some l) ls
 
-ring_chained : chained none ring.links ≡ true
+ring_chained : chained None ring.links ≡ true
 ring_chained = refl
 
 abbrev adds_all : List Link → Bool
@@ -92,7 +92,7 @@ ring_adds = refl
 
 chain : (before : Option Link) (ls : List Link) → chained before ls ≡ true → Chain before ls
 chain before [] e = tt
-chain before (l ∷ ls) e = let r = and_gives (follows before l) (chained (some l) ls) e in (r.0, chain (some l) ls r.1)
+chain before (l ∷ ls) e = let r = and_gives (follows before l) (chained (Some l) ls) e in (r.0, chain (Some l) ls r.1)
 
 -- ---- so it is sound
 turn : (i j : ℕ) → near i j ≡ true → (near j i ≡ true) × (i ≢ j)
@@ -144,7 +144,7 @@ ring_sound = record {
   measured = λ t m. omega (arith, zeros 64 m);
   many = omega arith;
   fits = λ l m. ring_fits l (ringed l m);
-  rising = (chain_rising none ring.links (chain none ring.links ring_chained)).1;
+  rising = (chain_rising None ring.links (chain None ring.links ring_chained)).1;
   duplex = λ l m. ring_paired l (ringed l m);
   sums = λ i h. eqb-true (row_sum ring i) (due ring i) (every_gives (adds ring) (below 64) ring_adds (below_in 64 i h));
   free = falls_free ring (λ i. i) (λ l m. ring_falls l (ringed l m));

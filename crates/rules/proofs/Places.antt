@@ -5,7 +5,7 @@ use native.Mathlib.Omega.{arith}
 use mathlib.Core.Path.{◌≡◌, refl}
 use mathlib.Core.Bool.{Bool, true, false, cond, not}
 use mathlib.Core.List.{List, [], ◌∷◌}
-use mathlib.Core.Option.{Option, none, some}
+use Rattle.std.specs.Prelude.{Option, None, Some}
 use lib.ListN.{length, get_or}
 use lib.Dec.{ltb, leb, eqb}
 use borrow.Author.Tests.{ltb-false}
@@ -89,11 +89,11 @@ module _ (b : List ℕ) where
   links_reads (suc k) o n before h = then_reads (item_reads o n (omega arith)) (go (links_reads k))
     where
       go : ((o n : ℕ) (before : Option Link) → o + 8 * k ≤ 4488 → Reads (LinksRead k o) (links_from k b o n before)) → (x : Item) (e : ℕ) → ItemRead o x e
-          → Reads (LinksRead (suc k) o) (by_item (λ l e. cond (follows before l) (pushed l (links_from k b e n (some l))) (wrong 4 o)) x e)
+          → Reads (LinksRead (suc k) o) (by_item (λ l e. cond (follows before l) (pushed l (links_from k b e n (Some l))) (wrong 4 o)) x e)
       go ih the_end e p = stands {x = []} {e = e} (omega arith, omega arith)
       go ih (link l) e p =
           either (Reads (LinksRead (suc k) o)) (follows before l)
-          (λ u. pushed_reads l (ih e n (some l) (omega arith)) (λ ls f q. (omega arith, omega arith))) (λ u. fault {p = o} (omega arith))
+          (λ u. pushed_reads l (ih e n (Some l) (omega arith)) (λ ls f q. (omega arith, omega arith))) (λ u. fault {p = o} (omega arith))
 
   -- ---- the whole row: what an accepted sheet has, and its bytes
   pub record Sized (s : Sheet) : Type 0 where
@@ -106,7 +106,7 @@ module _ (b : List ℕ) where
   sheet_reads =
       then_reads head_reads (λ h e p.
       then_reads (nodes_reads h.nodes e 0 (omega arith)) (λ ts f q.
-      then_reads (links_reads 512 f h.nodes none (omega arith)) (λ ls g r.
+      then_reads (links_reads 512 f h.nodes None (omega arith)) (λ ls g r.
       stands (λ l. record { few = omega arith; figures = omega arith; many = omega arith; row = omega arith }, omega arith))))
 
   alone_reads : Reads (λ s e. Sized s) (sheet_alone b)

@@ -7,7 +7,7 @@ use mathlib.Core.Bool.{Bool, true, false, cond}
 use mathlib.Core.List.Memᴰ.{head as here}
 use mathlib.Core.List.Memᴰ.{tail as there}
 use mathlib.Core.List.{List, [], ◌∷◌, ◌++◌, append_assoc, append-nil, Memᴰ as In}
-use mathlib.Core.Option.{Option, none, some}
+use Rattle.std.specs.Prelude.{Option, None, Some}
 use lib.ListN.{length, drop, length-append, drop_of_length-le}
 use lib.Dec.{ltb}
 use borrow.Author.Tests.{ltb-true, ltb-false, le-ltb}
@@ -75,7 +75,7 @@ module _ (b : List ℕ) (fit : AreBytes b) (n : ℕ) where
   }
 
   one-read : (k o : ℕ) (before : Option Link) {l : Link} {ls : List Link} {f e : ℕ} → LinkRead b o n l f → follows before l ≡ true
-      → LinksRead b k f n (some l) ls e → LinksRead b (suc k) o n before (l ∷ ls) e
+      → LinksRead b k f n (Some l) ls e → LinksRead b (suc k) o n before (l ∷ ls) e
   one-read k o before {l} w up r = record {
     behind = omega (arith, w.behind, r.behind);
     room = omega (arith, r.room);
@@ -103,9 +103,9 @@ module _ (b : List ℕ) (fit : AreBytes b) (n : ℕ) where
         where
           by_order : (follows before l ≡ true) ⊎ (follows before l ≡ false) → LinksRead b (suc k) o n before ls e
           by_order (inl up) =
-              let w = pushed_gives l (links_from k b f n (some l)) (sym (links_on b o n before r k up) ∙ q) in
+              let w = pushed_gives l (links_from k b f n (Some l)) (sym (links_on b o n before r k up) ∙ q) in
               subst (λ (x : List Link). LinksRead b (suc k) o n before x e) w.2
-              (one-read k o before (item_read b fit o n r) up (ih f (some l) w.0 e w.1))
+              (one-read k o before (item_read b fit o n r) up (ih f (Some l) w.0 e w.1))
           by_order (inr low) = unread (sym (links-low b o n before r (suc k) low) ∙ q)
 
 -- ---- lengths
@@ -146,12 +146,12 @@ pub record SheetRead (b : List ℕ) (o : ℕ) (s : Sheet) (e : ℕ) : Type 0 whe
 
 pub sheet_read : (b : List ℕ) → AreBytes b → (o : ℕ) {s : Sheet} {e : ℕ} → sheet_at b o ≡ read s e → SheetRead b o s e
 sheet_read b fit o {s} {e} q =
-    let h = then_gives (head_at b o) (λ h e. then (nodes_from h.nodes b e 0) (λ ts f. then (links_from 512 b f h.nodes none) (λ ls g. read (sheet_with h ts ls) g))) q in
-    let ns = then_gives (nodes_from h.0.nodes b h.1 0) (λ ts f. then (links_from 512 b f h.0.nodes none) (λ ls g. read (sheet_with h.0 ts ls) g)) h.3 in
-    let ls = then_gives (links_from 512 b ns.1 h.0.nodes none) (λ ls g. read (sheet_with h.0 ns.0 ls) g) ns.3 in
+    let h = then_gives (head_at b o) (λ h e. then (nodes_from h.nodes b e 0) (λ ts f. then (links_from 512 b f h.nodes None) (λ ls g. read (sheet_with h ts ls) g))) q in
+    let ns = then_gives (nodes_from h.0.nodes b h.1 0) (λ ts f. then (links_from 512 b f h.0.nodes None) (λ ls g. read (sheet_with h.0 ts ls) g)) h.3 in
+    let ls = then_gives (links_from 512 b ns.1 h.0.nodes None) (λ ls g. read (sheet_with h.0 ns.0 ls) g) ns.3 in
     let hr = head_read b fit o h.2 in
     let nr = nodes-read b fit h.0.nodes h.1 0 ns.0 ns.1 ns.2 in
-    let lr = links-read b fit h.0.nodes 512 ns.1 none ls.0 ls.1 ls.2 in
+    let lr = links-read b fit h.0.nodes 512 ns.1 None ls.0 ls.1 ls.2 in
     let t : Sheet = sheet_with h.0 ns.0 ls.0 in
     let right = head_gives h.0 hr.right in
     read_as (SheetRead b o) ls.3 (record {
@@ -167,7 +167,7 @@ sheet_read b fit o {s} {e} q =
         measured = nr.small;
         many = lr.room;
         fits = lr.fits;
-        rising = (chain_rising none ls.0 lr.chain).1;
+        rising = (chain_rising None ls.0 lr.chain).1;
         duplex = pairs;
         sums = sums;
         free = free;
@@ -196,7 +196,7 @@ links-held b n (suc k) (l ∷ ls) o before rest room fits chain e =
     let next : List ℕ = link_records ls ++ (9 ∷ rest) in
     let z : o + 8 + 8 * length ls + 1 ≡ o + 8 * suc (length ls) + 1 = omega arith in
     links_on b o n before (link-held b o n l next (fits l (here refl)) e) k chain.0
-    ∙ ap (pushed l) (links-held b n k ls (o + 8) (some l) rest (omega arith) (λ x m. fits x (there m)) chain.1 (moved b o (link_record l) next e))
+    ∙ ap (pushed l) (links-held b n k ls (o + 8) (Some l) rest (omega arith) (λ x m. fits x (there m)) chain.1 (moved b o (link_record l) next e))
     ∙ ap (read (l ∷ ls)) z
 
 pub sheet_held : (b : List ℕ) (o : ℕ) (s : Sheet) (rest : List ℕ) → Sound s → drop o b ≡ bytes s ++ rest → sheet_at b o ≡ read s (o + length (bytes s))
@@ -229,10 +229,10 @@ sheet_held b o s rest ok e =
     after_nodes =
         ap (λ (k : ℕ). drop (o + 7 + k) b) (sym (node-length 0 s.traffic)) ∙ moved b (o + 7) (node_records 0 s.traffic) last after_head
 
-    links_are : links_from 512 b (o + 7 + 6 * length s.traffic) s.nodes none ≡ read s.links (o + 7 + 6 * length s.traffic + 8 * length s.links + 1)
+    links_are : links_from 512 b (o + 7 + 6 * length s.traffic) s.nodes None ≡ read s.links (o + 7 + 6 * length s.traffic + 8 * length s.links + 1)
     links_are =
-        links-held b s.nodes 512 s.links (o + 7 + 6 * length s.traffic) none rest ok.many ok.fits
-        (rising_chain none s.links (λ m i. refl) ok.rising) after_nodes
+        links-held b s.nodes 512 s.links (o + 7 + 6 * length s.traffic) None rest ok.many ok.fits
+        (rising_chain None s.links (λ m i. refl) ok.rising) after_nodes
 
     behind_all : o + 7 + 6 * length s.traffic + 8 * length s.links + 1 ≡ o + length (bytes s)
     behind_all = omega (arith, bytes-length s)

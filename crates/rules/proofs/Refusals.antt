@@ -5,7 +5,7 @@ use mathlib.Core.Path.{◌≡◌, refl, sym, ap, ap₂, ◌∙◌, subst}
 use mathlib.Core.Logic.{◌⊎◌, inl, inr, ◌↔◌, ◌≢◌}
 use mathlib.Core.Bool.{Bool, true, false, cond, not}
 use mathlib.Core.List.{List, [], ◌∷◌}
-use mathlib.Core.Option.{Option, none, some}
+use Rattle.std.specs.Prelude.{Option, None, Some}
 use lib.ListN.{length, get_or}
 use lib.Dec.{ltb, leb, eqb}
 use borrow.Author.Tests.{leb-true, leb-false, le-leb, lt-leb, ltb-true, ltb-false, lt-ltb, le-ltb, eqb-true, eqb-false, eq-eqb, ne_eqb}
@@ -91,9 +91,9 @@ module _ (b : List ℕ) (start : ℕ) where
 
   -- a link or the end record after j links, at offset o; n nodes, and the link before
   pub data ItemDue : ℕ → ℕ → Option Link → ℕ → Type 0 where
-    first_item : {n o : ℕ} → NodeDue n n o → ItemDue n 0 none o
+    first_item : {n o : ℕ} → NodeDue n n o → ItemDue n 0 None o
     next_item : {n j o e : ℕ} {before : Option Link} {l : Link} → ItemDue n j before o → j < 512 → item_at b o n ≡ read (link l) e → follows before l ≡ true
-        → ItemDue n (suc j) (some l) e
+        → ItemDue n (suc j) (Some l) e
 
   -- a refusal's number and place
   pub data Refused : ℕ → ℕ → Type 0 where
@@ -134,34 +134,34 @@ module _ (b : List ℕ) (start : ℕ) where
       go (read (link l) e) f =
           let full : j ≡ 512 = omega arith in
           wrong_as {A = List Link} Refused (sym (links-full b o n before f) ∙ q) (too_many (subst (λ (i : ℕ). ItemDue n i before o) full d) f)
-  links_fail (suc k) n j o before {m} {p} d z q = go (item_at b o n) refl (λ l e f w. links_fail k n (suc j) e (some l) f (omega arith) w)
+  links_fail (suc k) n j o before {m} {p} d z q = go (item_at b o n) refl (λ l e f w. links_fail k n (suc j) e (Some l) f (omega arith) w)
     where
-      go : (r : Read Item) → item_at b o n ≡ r → ((l : Link) (e : ℕ) → ItemDue n (suc j) (some l) e → links_from k b e n (some l) ≡ wrong m p → Refused m p) → Refused m p
+      go : (r : Read Item) → item_at b o n ≡ r → ((l : Link) (e : ℕ) → ItemDue n (suc j) (Some l) e → links_from k b e n (Some l) ≡ wrong m p → Refused m p) → Refused m p
       go (wrong a c) f ih = wrong_as {A = List Link} Refused (sym (links_stop b o n before (suc k) f) ∙ q) (at_item d f)
       go (read the_end e) f ih = unread (sym q ∙ links_end b o n before (suc k) f)
       go (read (link l) e) f ih = by_order (known (follows before l))
         where
           by_order : (follows before l ≡ true) ⊎ (follows before l ≡ false) → Refused m p
           by_order (inl up) =
-              ih l e (next_item d (omega arith) f up) (pushed-stops l (links_from k b e n (some l)) (sym (links_on b o n before f k up) ∙ q))
+              ih l e (next_item d (omega arith) f up) (pushed-stops l (links_from k b e n (Some l)) (sym (links_on b o n before f k up) ∙ q))
           by_order (inr low) = wrong_as {A = List Link} Refused (sym (links-low b o n before f (suc k) low) ∙ q) (not_rising d f low)
 
   sheet_fail : {m p : ℕ} → sheet_at b start ≡ wrong m p → Refused m p
   sheet_fail {m} {p} q = by_head (head_at b start) refl q
     where
-      by_links : (h : Head) (ts : List ℕ) (f : ℕ) → NodeDue h.nodes h.nodes f → (r : Read (List Link)) → links_from 512 b f h.nodes none ≡ r
+      by_links : (h : Head) (ts : List ℕ) (f : ℕ) → NodeDue h.nodes h.nodes f → (r : Read (List Link)) → links_from 512 b f h.nodes None ≡ r
           → then r (λ ls g. read (sheet_with h ts ls) g) ≡ wrong m p → Refused m p
-      by_links h ts f d (wrong a c) r w = wrong_as {A = Sheet} Refused w (links_fail 512 h.nodes 0 f none (first_item d) refl r)
+      by_links h ts f d (wrong a c) r w = wrong_as {A = Sheet} Refused w (links_fail 512 h.nodes 0 f None (first_item d) refl r)
       by_links h ts f d (read ls g) r w = unread (sym w)
 
       by_nodes : (h : Head) (e : ℕ) → head_at b start ≡ read h e → (r : Read (List ℕ)) → nodes_from h.nodes b e 0 ≡ r
-          → then r (λ ts f. then (links_from 512 b f h.nodes none) (λ ls g. read (sheet_with h ts ls) g)) ≡ wrong m p → Refused m p
+          → then r (λ ts f. then (links_from 512 b f h.nodes None) (λ ls g. read (sheet_with h ts ls) g)) ≡ wrong m p → Refused m p
       by_nodes h e c (wrong a d) r w = wrong_as {A = Sheet} Refused w (nodes_fail h.nodes h.nodes 0 e (first-node c) (omega arith) r)
       by_nodes h e c (read ts f) r w =
-          by_links h ts f (nodes_past h.nodes h.nodes 0 e (first-node c) (omega arith) r) (links_from 512 b f h.nodes none) refl w
+          by_links h ts f (nodes_past h.nodes h.nodes 0 e (first-node c) (omega arith) r) (links_from 512 b f h.nodes None) refl w
 
       by_head : (r : Read Head) → head_at b start ≡ r
-          → then r (λ h e. then (nodes_from h.nodes b e 0) (λ ts f. then (links_from 512 b f h.nodes none) (λ ls g. read (sheet_with h ts ls) g))) ≡ wrong m p → Refused m p
+          → then r (λ h e. then (nodes_from h.nodes b e 0) (λ ts f. then (links_from 512 b f h.nodes None) (λ ls g. read (sheet_with h ts ls) g))) ≡ wrong m p → Refused m p
       by_head (wrong a c) r w = wrong_as {A = Sheet} Refused w (at_head r)
       by_head (read h e) r w = by_nodes h e r (nodes_from h.nodes b e 0) refl w
 
@@ -201,7 +201,7 @@ module _ (b : List ℕ) (start : ℕ) where
       let r = behind d 0 [] o (omega arith) (nodes-done b o n) in
       let all : k ≡ 512 = omega arith in
       let ns : nodes_from r.head.nodes b r.after 0 ≡ read r.traffic o = rw r.many r.nodes_are in
-      let ls : links_from 512 b o r.head.nodes none ≡ wrong m p = rw (r.many, ← all) w in
+      let ls : links_from 512 b o r.head.nodes None ≡ wrong m p = rw (r.many, ← all) w in
       rw (r.head_is, ns, ls)
   fail_item (next_item {n} {j} {o} {e} {before} {l} d few q up) k z w =
       fail_item d (suc k) (omega arith) (links_on b o n before q k up ∙ ap (pushed l) w)

@@ -1,10 +1,10 @@
--- What a caller knows of a sheet that was read: refusals 1 to 5 leave these facts. In terms of the five slices.
+-- What a caller knows of a sheet that was read: refusals 1 to 5 leave these facts. In terms of the five columns.
 use Prim.Native.Nat.{ℕ, zero, suc, ◌+◌, ◌*◌, ◌≤◌, ◌<◌}
 use mathlib.Core.Path.{◌≡◌, refl, sym, ap, ◌∙◌}
 use mathlib.Core.Bool.{Bool, true, false, cond}
 use mathlib.Core.List.Memᴰ
 use mathlib.Core.List.{List, [], ◌∷◌, ◌++◌, append-nil, Memᴰ as In}
-use mathlib.Core.Option.{none}
+use Rattle.std.specs.Prelude.{None, Ok}
 use native.Mathlib.Omega.{arith}
 use lib.ListN.{length, get_or, take, length-map, drop_of_length-le}
 use lib.Dec.{ltb}
@@ -19,9 +19,9 @@ use Rattle.rules.proofs.Order.{Less, Rising, rises_less, chain_rising}
 use Rattle.rules.proofs.Sound.{Fits}
 use Rattle.rules.proofs.Records.{unread, read_as, then_gives, head_gives, head_read}
 use Rattle.rules.proofs.Reading.{nodes-read, links-read, sheet_read, bytes-length}
-use Rattle.sheet.specs.Held.{held_at, held, sheet_said, sheet_read_said, SheetGiven}
+use Rattle.sheet.specs.Held.{held_at, held, sheet_said, SheetGiven}
 use Rattle.sheet.specs.declared.SheetHeld.{SheetHeld}
-use Rattle.sheet.specs.declared.SheetRead.{SheetRead}
+use Rattle.sheet.specs.declared.Columns.{Columns}
 
 -- ---- of a sheet
 pub record Sane (s : Sheet) : Type 0 where
@@ -38,12 +38,12 @@ pub record Sane (s : Sheet) : Type 0 where
 
 pub at_sane : (b : List ℕ) → AreBytes b → (o : ℕ) {s : Sheet} {e : ℕ} → sheet_at b o ≡ read s e → Sane s
 at_sane b fit o q =
-    let h = then_gives (head_at b o) (λ h e. then (nodes_from h.nodes b e 0) (λ ts f. then (links_from 512 b f h.nodes none) (λ ls g. read (sheet_with h ts ls) g))) q in
-    let ns = then_gives (nodes_from h.0.nodes b h.1 0) (λ ts f. then (links_from 512 b f h.0.nodes none) (λ ls g. read (sheet_with h.0 ts ls) g)) h.3 in
-    let ls = then_gives (links_from 512 b ns.1 h.0.nodes none) (λ ls g. read (sheet_with h.0 ns.0 ls) g) ns.3 in
+    let h = then_gives (head_at b o) (λ h e. then (nodes_from h.nodes b e 0) (λ ts f. then (links_from 512 b f h.nodes None) (λ ls g. read (sheet_with h ts ls) g))) q in
+    let ns = then_gives (nodes_from h.0.nodes b h.1 0) (λ ts f. then (links_from 512 b f h.0.nodes None) (λ ls g. read (sheet_with h.0 ts ls) g)) h.3 in
+    let ls = then_gives (links_from 512 b ns.1 h.0.nodes None) (λ ls g. read (sheet_with h.0 ns.0 ls) g) ns.3 in
     let right = head_gives h.0 (head_read b fit o h.2).right in
     let nr = nodes-read b fit h.0.nodes h.1 0 ns.0 ns.1 ns.2 in
-    let lr = links-read b fit h.0.nodes 512 ns.1 none ls.0 ls.1 ls.2 in
+    let lr = links-read b fit h.0.nodes 512 ns.1 None ls.0 ls.1 ls.2 in
     read_as (λ (s : Sheet) (e : ℕ). Sane s) {x = sheet_with h.0 ns.0 ls.0} {e = ls.1} ls.3 (record {
       two = right.0;
       few = right.1;
@@ -54,7 +54,7 @@ at_sane b fit o q =
       measured = nr.small;
       many = lr.room;
       fits = lr.fits;
-      rising = (chain_rising none ls.0 lr.chain).1;
+      rising = (chain_rising None ls.0 lr.chain).1;
     })
 
 module _ (b : List ℕ) {s : Sheet} {e : ℕ} (q : sheet_alone b ≡ read s e) where
@@ -77,7 +77,7 @@ module _ (b : List ℕ) {s : Sheet} {e : ℕ} (q : sheet_alone b ≡ read s e) w
         ∙ ap (λ (x : List ℕ). bytes s ++ x) (drop_of_length-le b alone_at.1)
         ∙ append-nil (bytes s))
 
--- ---- of the links that the slices hold
+-- ---- of the links that the columns hold
 rising_at : (ls : List Link) → Rising ls → (j k : ℕ) → j < k → k < length ls → rises (get_or ls j no_link) (get_or ls k no_link) ≡ true
 rising_at [] r j k p q = absurd (omega arith)
 rising_at (l ∷ ls) r j zero p q = absurd (omega arith)
@@ -94,7 +94,7 @@ module _ (n : ℕ) (fs ts ls xs : List ℕ) where
   pub held_in : (j : ℕ) → j < n → In (held_at fs ts ls xs j) (held n fs ts ls xs)
   held_in j h = Memᴰ.cast (sym (held-at j h)) (get_or_in (held n fs ts ls xs) j no_link (omega (arith, held-length)))
 
--- all that refusals 1 to 5 leave of the sheet that the slices hold
+-- all that refusals 1 to 5 leave of the sheet that the columns hold
 pub record SheetFacts (b : List ℕ) (s : SheetHeld) (traffic fs ts ls xs : List ℕ) : Type 0 where
   pub sane : Sane (sheet_said s traffic fs ts ls xs)
   pub stand : bytes (sheet_said s traffic fs ts ls xs) ≡ b
@@ -138,6 +138,7 @@ module _ (b : List ℕ) (fit : AreBytes b) {s : SheetHeld} {e : ℕ} {traffic fs
             (rw (held-at n fs ts ls xs j (omega arith), held-at n fs ts ls xs k q) at (rising_at (held n fs ts ls xs) ok.rising j k p (omega (arith, count))));
       }
 
-  -- from what read_alone ensures, in the case that it read the sheet
-  pub given_facts : {r : SheetRead} → SheetGiven r (sheet_alone b) traffic fs ts ls xs → r ≡ SheetRead.Read s e → SheetFacts b s traffic fs ts ls xs
-  given_facts g c = sheet_facts (sym g.said ∙ ap (λ (x : SheetRead). sheet_read_said x traffic fs ts ls xs) c)
+-- from what read_alone ensures, in the case that it read the sheet
+pub given_facts : (b : List ℕ) → AreBytes b → {s : SheetHeld} {e : ℕ} {c : Columns} → SheetGiven (Ok (s, e)) (sheet_alone b) c
+    → SheetFacts b s c.traffic c.from c.to c.load c.fraction
+given_facts b fit g = sheet_facts b fit (sym g.said)

@@ -4,7 +4,7 @@ use mathlib.Core.Path.{◌≡◌, refl, sym, ap, ap₂, ◌∙◌}
 use mathlib.Core.Logic.{⊎_elim}
 use mathlib.Core.Bool.{Bool, true, false, cond, ◌&&◌}
 use mathlib.Core.List.{List, [], ◌∷◌, ◌++◌, map, map-append}
-use mathlib.Core.Option.{Option, none, some}
+use Rattle.std.specs.Prelude.{Option, None, Some}
 use native.Mathlib.Omega.{arith}
 use native.Mathlib.Numerals.{add-one}
 use native.Mathlib.Decide.{dec_lt}
@@ -21,11 +21,8 @@ use Rattle.rules.proofs.Lists.{map_eq, in_below, below_last}
 use Rattle.rules.proofs.Order.{rises_less}
 use Rattle.rules.proofs.Records.{unread, record_gives, record_holds}
 use Rattle.rules.proofs.Steps.{links_stop, links_end, links-full, links-low, links_on, pushed_all, pushed_last, pushed-wrong, pushed_end}
-use Rattle.numbers.specs.declared.Fraction.{Fraction}
-use Rattle.sheet.specs.Held.{held_at, held, last_held, item_read_said, key_of, LinkRoom, stopped, TakenHeld, LinksHeld}
-use Rattle.sheet.specs.declared.ItemRead.{ItemRead}
-use Rattle.sheet.specs.declared.LinksTaken.{LinksTaken}
-use Rattle.sheet.specs.declared.LinksRead.{LinksRead}
+use Rattle.sheet.specs.declared.Columns.{Columns}
+use Rattle.sheet.specs.Held.{held_at, held, links_in, last_held, key_of, LinkRoom, stopped, TakenHeld, Lent}
 
 and_true : (a : Bool) {b : Bool} → b ≡ true → (a && b) ≡ a
 and_true true q = q
@@ -100,43 +97,43 @@ module _ (k : ℕ) (fs ts ls xs : List ℕ) (l : Link) (hf : k < length fs) (ht 
       ∙ map-append stored_at (below k) (k ∷ [])
       ∙ ap₂ (λ (ys : List Link) (y : Link). ys ++ (y ∷ [])) (map_eq stored_at (held_at fs ts ls xs) (below k) (λ i m. stored_other i (in_below k m))) stored_here)
 
-  last_more : some l ≡ last_held (k + 1) (set fs k l.from) (set ts k l.to) (set ls k l.load) (set xs k l.fraction)
-  last_more = rw add-one (ap some (sym stored_here))
+  last_more : Some l ≡ last_held (k + 1) (set fs k l.from) (set ts k l.to) (set ls k l.load) (set xs k l.fraction)
+  last_more = rw add-one (ap Some (sym stored_here))
 
-pub record LinksSoFar (b : List ℕ) (start n : ℕ) (fs ts ls xs : List ℕ) (k o least : ℕ) : Type 0 where
+pub room_left : {r k o : ℕ} {b : List ℕ} {start : ℕ} → LinkRoom r b start → k < r → o ≡ start + 8 * k → o + 8 ≤ length b
+room_left {r} {k} room p at = omega (arith, room.fits k p)
+
+-- the columns with a link stored at k
+abbrev pub stored : ℕ → Link → Columns → Columns
+stored k l c = record c { from = set c.from k l.from; to = set c.to k l.to; load = set c.load k l.load; fraction = set c.fraction k l.fraction }
+
+pub lent_more : (k : ℕ) (l : Link) {c : Columns} → Lent c → Lent (stored k l c)
+lent_more k l {c} h = record {
+  nodes = h.nodes;
+  froms = length-set c.from k l.from ∙ h.froms;
+  tos = length-set c.to k l.to ∙ h.tos;
+  loads = length-set c.load k l.load ∙ h.loads;
+  fractions = length-set c.fraction k l.fraction ∙ h.fractions;
+}
+
+pub record LinksSoFar (b : List ℕ) (start n : ℕ) (c : Columns) (k o least : ℕ) : Type 0 where
   pub few : k ≤ 512
-  pub froms : length fs ≡ 512
-  pub tos : length ts ≡ 512
-  pub loads : length ls ≡ 512
-  pub fractions : length xs ≡ 512
   pub at : o ≡ start + 8 * k
-  pub order : (l : Link) → l.to < 256 → follows (last_held k fs ts ls xs) l ≡ leb least (key l)
-  pub rest : links_from 512 b start n none ≡ pushed_all (held k fs ts ls xs) (links_from (512 - k) b o n (last_held k fs ts ls xs))
+  pub order : (l : Link) → l.to < 256 → follows (last_held k c.from c.to c.load c.fraction) l ≡ leb least (key l)
+  pub rest : links_from 512 b start n None ≡ pushed_all (links_in k c) (links_from (512 - k) b o n (last_held k c.from c.to c.load c.fraction))
 
-module _ {b : List ℕ} {start n : ℕ} {fs ts ls xs : List ℕ} where
-  pub so_far_none : (length fs ≡ 512) × (length ts ≡ 512) × (length ls ≡ 512) × (length xs ≡ 512) → LinksSoFar b start n fs ts ls xs 0 start 0
-  so_far_none h = record {
-    few = omega arith;
-    froms = h.0;
-    tos = h.1;
-    loads = h.2;
-    fractions = h.3;
-    at = omega arith;
-    order = λ l p. sym (le-leb 0 (key l) (omega arith));
-    rest = refl;
-  }
-
-  module _ {k o least : ℕ} (h : LinksSoFar b start n fs ts ls xs k o least) where
+module _ {b : List ℕ} {start n : ℕ} {c : Columns} where
+  module _ {k o least : ℕ} (h : LinksSoFar b start n c k o least) where
     -- what is held so far
     abbrev done : List Link
-    done = held k fs ts ls xs
+    done = links_in k c
 
     abbrev last : Option Link
-    last = last_held k fs ts ls xs
+    last = last_held k c.from c.to c.load c.fraction
 
     -- no more is taken: then a link that stands there is wrong
     stop : ((l : Link) (e : ℕ) → item_at b o n ≡ read (link l) e → links_from (512 - k) b o n last ≡ wrong 4 o)
-        → TakenHeld (record { count = k; behind = o }) b start n fs ts ls xs
+        → TakenHeld (record { count = k; behind = o }) b start n c
     stop over = record { said = sym (h.rest ∙ go (item_at b o n) refl); room = h.few }
       where
         go : (x : Read Item) → item_at b o n ≡ x → pushed_all done (links_from (512 - k) b o n last) ≡ stopped x o done
@@ -145,11 +142,11 @@ module _ {b : List ℕ} {start n : ℕ} {fs ts ls xs : List ℕ} where
         go (read (link l) e) q = ap (pushed_all done) (over l e q) ∙ pushed-wrong done 4 o
 
     -- for want of room: there stands no link, or it is one too many
-    pub so_far_full : {r : ℕ} → LinkRoom r b start → r ≤ k → TakenHeld (record { count = k; behind = o }) b start n fs ts ls xs
-    so_far_full {r} room p = stop (λ l e q. go (dec_lt k 512) l q)
+    pub so_far_full : {r : ℕ} → LinkRoom r b start → r ≡ k → TakenHeld (record { count = r; behind = o }) b start n c
+    so_far_full {r} room same = rw same (stop (λ l e q. go (dec_lt k 512) l q))
       where
         go : Dec (k < 512) → (l : Link) {e : ℕ} → item_at b o n ≡ read (link l) e → links_from (512 - k) b o n last ≡ wrong 4 o
-        go (yes a) l q = absurd (omega (arith, (item_link b o n q).1, room.ends k p a, h.at))
+        go (yes a) l q = absurd (omega (arith, (item_link b o n q).1, room.ends k (omega arith) a, h.at))
         go (no a) l q =
             let z : 512 - k ≡ 0 = omega (arith, h.few) in
             ap (λ (m : ℕ). links_from m b o n last) z ∙ links-full b o n last q
@@ -159,7 +156,7 @@ module _ {b : List ℕ} {start n : ℕ} {fs ts ls xs : List ℕ} where
       small = omega (arith, ap (λ (m : Link). m.to) is, fit (o + 2))
 
       -- it is none, or does not follow
-      pub so_far_stop : t ≡ false → TakenHeld (record { count = k; behind = o }) b start n fs ts ls xs
+      pub so_far_stop : t ≡ false → TakenHeld (record { count = k; behind = o }) b start n c
       so_far_stop f = stop (λ m e q. low m q (item_link b o n q))
         where
           low : (m : Link) {e : ℕ} → item_at b o n ≡ read (link m) e
@@ -172,48 +169,32 @@ module _ {b : List ℕ} {start n : ℕ} {fs ts ls xs : List ℕ} where
               links-low b o n last q (512 - k) (ap (follows last) (sym same) ∙ h.order l small ∙ under)
 
       pub so_far_more : {r v : ℕ} → LinkRoom r b start → k < r → t ≡ true → v ≡ key l
-          → LinksSoFar b start n (set fs k l.from) (set ts k l.to) (set ls k l.load) (set xs k l.fraction) (k + 1) (o + 8) (v + 1)
-      so_far_more {r} {v} room p f made =
+          → Lent c
+          → LinksSoFar b start n (stored k l c) (k + 1) (o + 8) (v + 1)
+      so_far_more {r} {v} room p f made lent =
           let tests = and_gives (leb least (key l)) (eqb (get_or b o 0) 3 && in_range n l) (sym tested ∙ f) in
           let two = and_gives (eqb (get_or b o 0) 3) (in_range n l) tests.1 in
           let kind : get_or b o 0 ≡ 3 = eqb-true (get_or b o 0) 3 two.0 in
-          let space : o + 8 ≤ length b = omega (arith, room.fits k p, h.at) in
+          let space : o + 8 ≤ length b = room_left room p h.at in
           let here : item_at b o n ≡ read (link l) (o + 8) =
           item_taken b o n kind space (ap (in_range n) (sym is) ∙ two.1) ∙ ap (λ (m : Link). read (link m) (o + 8)) (sym is) in
           let follow : follows last l ≡ true = h.order l small ∙ tests.0 in
           let inside : k < 512 = omega (arith, p, room.cap) in
-          let hf : k < length fs = omega (arith, inside, h.froms) in
-          let ht : k < length ts = omega (arith, inside, h.tos) in
-          let hl : k < length ls = omega (arith, inside, h.loads) in
-          let hx : k < length xs = omega (arith, inside, h.fractions) in
+          let hf : k < length c.from = omega (arith, inside, lent.froms) in
+          let ht : k < length c.to = omega (arith, inside, lent.tos) in
+          let hl : k < length c.load = omega (arith, inside, lent.loads) in
+          let hx : k < length c.fraction = omega (arith, inside, lent.fractions) in
           let y : 512 - k ≡ suc (512 - (k + 1)) = omega (arith, inside) in
+          let more = held_more k c.from c.to c.load c.fraction l hf ht hl hx in
+          let next = last_more k c.from c.to c.load c.fraction l hf ht hl hx in
           record {
             few = omega (arith, inside);
-            froms = length-set fs k l.from ∙ h.froms;
-            tos = length-set ts k l.to ∙ h.tos;
-            loads = length-set ls k l.load ∙ h.loads;
-            fractions = length-set xs k l.fraction ∙ h.fractions;
             at = omega (arith, h.at);
-            order = λ m q. ap (λ (before : Option Link). follows before m) (sym (last_more k fs ts ls xs l hf ht hl hx)) ∙ rw made (rises_by_key l m small q);
+            order = λ m q. ap (λ (before : Option Link). follows before m) (sym next) ∙ rw made (rises_by_key l m small q);
             rest =
                 h.rest
                 ∙ ap (λ (m : ℕ). pushed_all done (links_from m b o n last)) y
                 ∙ ap (pushed_all done) (links_on b o n last here (512 - (k + 1)) follow)
-                ∙ pushed_last done l (links_from (512 - (k + 1)) b (o + 8) n (some l))
-                ∙ λ i. pushed_all (held_more k fs ts ls xs l hf ht hl hx i) (links_from (512 - (k + 1)) b (o + 8) n (last_more k fs ts ls xs l hf ht hl hx i));
+                ∙ pushed_last done l (links_from (512 - (k + 1)) b (o + 8) n (Some l))
+                ∙ λ i. pushed_all (more i) (links_from (512 - (k + 1)) b (o + 8) n (next i));
           }
-
--- ---- the answer, by the item that stands behind the links taken
-module _ {b : List ℕ} {start n : ℕ} {fs ts ls xs : List ℕ} {r : LinksTaken} (h : TakenHeld r b start n fs ts ls xs)
-    {item : ItemRead} (q : item_read_said item ≡ item_at b r.behind n) where
-  by_item_lem : {x : ItemRead} → item ≡ x → stopped (item_read_said x) r.behind (held r.count fs ts ls xs) ≡ links_from 512 b start n none
-  by_item_lem c = ap (λ (y : Read Item). stopped y r.behind (held r.count fs ts ls xs)) (ap item_read_said (sym c) ∙ q) ∙ h.said
-
-  pub links-wrong : {m p : ℕ} → item ≡ ItemRead.Wrong m p → LinksHeld (LinksRead.Wrong m p) b start n fs ts ls xs
-  links-wrong c = record { said = by_item_lem c; room = tt }
-
-  pub links_ended : {e : ℕ} → item ≡ ItemRead.End e → LinksHeld (LinksRead.Read r.count e) b start n fs ts ls xs
-  links_ended c = record { said = by_item_lem c; room = h.room }
-
-  pub links-over : {f t d e : ℕ} {x : Fraction} → item ≡ ItemRead.Link f t d x e → LinksHeld (LinksRead.Wrong 4 r.behind) b start n fs ts ls xs
-  links-over c = record { said = by_item_lem c; room = tt }

@@ -1,19 +1,11 @@
-use Rattle.admit.proofs.Judging.{room-kept, room-ordered, judged_6, judged_7, judged_8, judged_fine, order-asked}
+use mathlib.Core.Path.{sym, ◌∙◌}
+use Rattle.admit.proofs.Judging.{handed_on, judged_sum, judged_loop}
 use Rattle.admit.proofs.judge_whole.Goals as goal
 
-pub returns-in-At : goal.returns-in-At
-returns-in-At c =
-    judged_6 c.args.h (room-kept c.requires.1 c.survey-wrong.ensures c.pair_links-alone.ensures) c.pair_links-alone.ensures c.in-At.is
+pub returns-in_err-refuse_at-2-clause-judged : goal.returns-in_err-refuse_at-2-clause-judged
+returns-in_err-refuse_at-2-clause-judged c =
+    judged_sum c.args.h _ c.pair_links-alone.ensures c.survey-wrong.ensures (sym c.refuse_at.ensures ∙ c.in_ok-refuse_at.was) (sym c.refuse_at-2.ensures ∙ c.in_err-refuse_at-2.was) (handed_on c.from_residual-in_err-refuse_at-2.ensures ∙ sym c.in_err-refuse_at-2.was ∙ c.refuse_at-2.ensures)
 
-pub returns-in-At-wrong : goal.returns-in-At-wrong
-returns-in-At-wrong c =
-    judged_7 c.args.h (room-kept c.requires.1 c.survey-wrong.ensures c.pair_links-alone.ensures) c.pair_links-alone.ensures c.survey-wrong.ensures c.in-Nowhere.is c.in-At-wrong.is
-
-pub find_order-looped-requires : goal.find_order-looped-requires
-find_order-looped-requires c = order-asked c.args.h (room-kept c.requires.1 c.survey-wrong.ensures c.pair_links-alone.ensures) c.survey-wrong.ensures c.requires.0
-
-pub returns-in-At-looped : goal.returns-in-At-looped
-returns-in-At-looped c = judged_8 c.args.h (room-ordered (room-kept c.requires.1 c.survey-wrong.ensures c.pair_links-alone.ensures) c.find_order-looped.ensures) c.pair_links-alone.ensures c.survey-wrong.ensures c.in-Nowhere.is c.in-Nowhere-wrong.is c.find_order-looped.ensures c.in-At-looped.is
-
-pub returns-in-Nowhere-looped : goal.returns-in-Nowhere-looped
-returns-in-Nowhere-looped c = judged_fine c.args.h (room-ordered (room-kept c.requires.1 c.survey-wrong.ensures c.pair_links-alone.ensures) c.find_order-looped.ensures) c.pair_links-alone.ensures c.survey-wrong.ensures c.in-Nowhere.is c.in-Nowhere-wrong.is c.find_order-looped.ensures c.in-Nowhere-looped.is
+pub returns-clause-judged : goal.returns-clause-judged
+returns-clause-judged c =
+    judged_loop c.args.h _ c.pair_links-alone.ensures c.survey-wrong.ensures (sym c.refuse_at.ensures ∙ c.in_ok-refuse_at.was) (sym c.refuse_at-2.ensures ∙ c.in_ok-refuse_at-2.was) c.find_order-looped.ensures c.refuse_at-3.ensures

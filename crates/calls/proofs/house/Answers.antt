@@ -1,23 +1,25 @@
+use Rattle.rules.specs.Messages.{house}
+use Rattle.rules.specs.Calls.{writes}
+use Rattle.sheet.specs.Held.{sheet_in}
+use mathlib.Core.Path.{◌∙◌}
 use lib.ListN.{length}
-use Rattle.calls.proofs.Replies.{refused-number, is_ready, answered_refused, house-refused, house_short, house_answered}
-use Rattle.calls.proofs.Writing.{graph-held, empty}
-use borrow.Author.Rules.{rules}
+use Rattle.admit.proofs.Judging.{handed_on}
+use Rattle.calls.proofs.Replies.{is_ready, house_accepted, no_room, some-room, answered_refused, answered_by, house_answered}
+use Rattle.calls.proofs.Writing.{graph-held}
 use Rattle.calls.proofs.house.Goals as goal
 
-pub refused-requires : goal.refused-requires
-refused-requires c = refused-number c.args.sheet.now c.open-opened.ensures c.in-Refused.is
+pub returns-in_err-judge_room : goal.returns-in_err-judge_room
+returns-in_err-judge_room c =
+    answered_refused c.args.out.now (handed_on c.from_residual-in_err-judge_room.ensures)
+    (house_accepted c.open.ensures c.in_ok-h.was (length c.args.out.now) ∙ no_room (length c.args.out.now) c.in_ok-h.h.links c.judge_room.ensures (writes (house (sheet_in c.in_ok-h.h c.open.new.net.columns))) c.in_err-judge_room.was)
 
-pub returns-then-out-need : goal.returns-then-out-need
-returns-then-out-need c = answered_refused c.args.out.now c.refused-then-out-need.ensures (house_short c.args.sheet.now c.open-opened.ensures (length c.args.out.now) c.in-Accepted.is c.if-out-need.true)
+pub write_house-requires-clause-graph : goal.write_house-requires-clause-graph
+write_house-requires-clause-graph c = graph-held (is_ready c.open.ensures c.in_ok-h.was).held
 
-pub write_house-requires : goal.write_house-requires
-write_house-requires c =
-    (graph-held (is_ready c.args.sheet.now c.open-opened.ensures c.in-Accepted.is), empty, search rules, c.if-out-need.false)
+pub write_house-requires-clause-room : goal.write_house-requires-clause-room
+write_house-requires-clause-room c = (some-room (length c.args.out.now) c.in_ok-h.h.links c.judge_room.ensures (writes (house (sheet_in c.in_ok-h.h c.open.new.net.columns))) c.in_ok-judge_room.was).0
 
-pub returns-in-Refused : goal.returns-in-Refused
-returns-in-Refused c = answered_refused c.args.out.now c.refused.ensures (house-refused c.args.sheet.now c.open-opened.ensures (length c.args.out.now) c.in-Refused.is)
-
-pub returns-else-out-need : goal.returns-else-out-need
-returns-else-out-need c =
-    let ready = is_ready c.args.sheet.now c.open-opened.ensures c.in-Accepted.is in
-    house_answered c.args.sheet.now c.open-opened.ensures (length c.args.out.now) c.in-Accepted.is c.args.out.now _ c.if-out-need.false (c.write_house.ensures.said ready.graph)
+pub returns : goal.returns
+returns c =
+    answered_by (house_accepted c.open.ensures c.in_ok-h.was (length c.args.out.now) ∙ (some-room (length c.args.out.now) c.in_ok-h.h.links c.judge_room.ensures (writes (house (sheet_in c.in_ok-h.h c.open.new.net.columns))) c.in_ok-judge_room.was).1)
+    (house_answered c.open.ensures c.in_ok-h.was (c.write_house.ensures.said (is_ready c.open.ensures c.in_ok-h.was).held.graph))

@@ -1,29 +1,14 @@
+use mathlib.Core.Path.{◌∙◌}
 use lib.ListN.{length}
-use Rattle.rules.proofs.Demands.{play-numbers}
-use Rattle.play.proofs.Replies.{play_reply_lem}
-use Rattle.calls.proofs.Replies.{refused-number, is_ready, answered_refused, said-small, said_answered, play-refused, play_short}
-use borrow.Author.Rules.{rules}
+use Rattle.rules.specs.Calls.{room}
+use Rattle.sheet.specs.Held.{sheet_in}
+use Rattle.play.specs.Replies.{played}
+use Rattle.calls.proofs.Replies.{is_ready, accepted_reply, some-room, answered_by}
 use Rattle.calls.proofs.play.Goals as goal
 
-pub refused-requires : goal.refused-requires
-refused-requires c = refused-number c.args.sheet.now c.open-opened.ensures c.in-Refused.is
-
-pub returns-then-out-need : goal.returns-then-out-need
-returns-then-out-need c = answered_refused c.args.out.now c.refused-then-out-need.ensures (play_short c.args.sheet.now c.open-opened.ensures c.args.list.now (length c.args.out.now) c.in-Accepted.is c.if-out-need.true)
-
-pub play_accepted-said-requires : goal.play_accepted-said-requires
-play_accepted-said-requires c =
-    (record { ts = _; ord = _; turn = _; ready = is_ready c.args.sheet.now c.open-opened.ensures c.in-Accepted.is }, c.if-out-need.false, search rules)
-
-pub answer_of-requires : goal.answer_of-requires
-answer_of-requires c =
-    let ready = is_ready c.args.sheet.now c.open-opened.ensures c.in-Accepted.is in
-    said-small (c.play_accepted-said.ensures.said ready) (play_reply_lem ready c.args.list.now (length c.args.out.now) c.if-out-need.false) (play-numbers c.args.sheet.now c.args.list.now (length c.args.out.now))
-
-pub returns-in-Refused : goal.returns-in-Refused
-returns-in-Refused c = answered_refused c.args.out.now c.refused.ensures (play-refused c.args.sheet.now c.open-opened.ensures c.args.list.now (length c.args.out.now) c.in-Refused.is)
-
-pub returns-else-out-need : goal.returns-else-out-need
-returns-else-out-need c =
-    let ready = is_ready c.args.sheet.now c.open-opened.ensures c.in-Accepted.is in
-    said_answered c.answer_of.ensures (c.play_accepted-said.ensures.said ready) (play_reply_lem ready c.args.list.now (length c.args.out.now) c.if-out-need.false)
+pub returns : goal.returns
+returns c =
+    answered_by
+    (accepted_reply c.open.ensures c.in_ok-h.was (λ s. room (length c.args.out.now) (length c.args.sheet.now) (played s c.args.list.now))
+    ∙ (some-room (length c.args.out.now) (length c.args.sheet.now) c.judge_room.ensures (played (sheet_in c.in_ok-h.h c.open.new.net.columns) c.args.list.now) c.in_ok-judge_room.was).1)
+    (c.play_accepted.ensures.said {ts = c.open.new.net.columns.to} {ord = c.open.new.net.order.order} {turn = c.open.new.net.order.turn} (is_ready c.open.ensures c.in_ok-h.was))

@@ -1,19 +1,16 @@
-use native.Mathlib.Omega.{arith}
 use Rattle.node.proofs.Held.{links-few}
-use Rattle.calls.proofs.Writing.{loads_in, empty, to_calculate, to_write, next-written}
+use Rattle.messages.proofs.Zeros.{empty_zeros}
+use Rattle.calls.proofs.Writing.{given, next-written}
 use Rattle.calls.proofs.write_next.Goals as goal
 
-pub slice_bounds-write_line_delays-end : goal.slice_bounds-write_line_delays-end
-slice_bounds-write_line_delays-end c = loads_in c.requires.0
+pub shared_ref_as_front-write_line_delays : goal.shared_ref_as_front-write_line_delays
+shared_ref_as_front-write_line_delays c = links-few c.requires.ready.held.graph
 
-pub write_line_delays-requires : goal.write_line_delays-requires
-write_line_delays-requires c = omega (arith, loads_in c.requires.0, links-few c.requires.0.ready.graph)
+pub next_fractions-requires-clause-given : goal.next_fractions-requires-clause-given
+next_fractions-requires-clause-given c = given c.requires.ready.held c.write_line_delays.ensures
 
-pub next_fractions-requires : goal.next_fractions-requires
-next_fractions-requires c = (to_calculate c.write_line_delays.ensures c.requires.0, empty)
-
-pub write_fractions-requires : goal.write_fractions-requires
-write_fractions-requires c = to_write c.write_line_delays.ensures c.requires.0 c.next_fractions.ensures c.requires.1
+pub next_fractions-requires-clause-quiet : goal.next_fractions-requires-clause-quiet
+next_fractions-requires-clause-quiet c = empty_zeros
 
 pub returns : goal.returns
-returns c = next-written c.write_line_delays.ensures c.requires.0 c.next_fractions.ensures c.write_fractions.ensures
+returns c = next-written c.requires.ready c.write_line_delays.ensures c.next_fractions.ensures.next c.write_fractions.ensures

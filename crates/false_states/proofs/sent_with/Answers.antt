@@ -1,16 +1,12 @@
-use mathlib.Core.Path.{refl}
-use Rattle.play.proofs.Playing.{nothing, loads_in, lines-room}
+use Rattle.node.proofs.Held.{links-few}
 use Rattle.false_states.proofs.False.{sent-asked, sent_with}
 use Rattle.false_states.proofs.sent_with.Goals as goal
 
-pub slice_bounds-write_line_delays-end : goal.slice_bounds-write_line_delays-end
-slice_bounds-write_line_delays-end c = loads_in c.requires.0
-
-pub write_line_delays-requires : goal.write_line_delays-requires
-write_line_delays-requires c = lines-room c.requires.0 nothing
+pub shared_ref_as_front-write_line_delays : goal.shared_ref_as_front-write_line_delays
+shared_ref_as_front-write_line_delays c = links-few c.requires.accepted.graph
 
 pub sent_after-requires : goal.sent_after-requires
-sent_after-requires c = (sent-asked c.write_line_delays.ensures c.requires.0 c.requires.1 c.requires.2 c.requires.3 c.told_by.ensures.1 c.told_by.ensures.2 refl, c.requires.4, c.requires.0.1.ready.load-size)
+sent_after-requires c = sent-asked c.requires.accepted c.write_line_delays.ensures c.requires.stored c.requires.small c.told_by.ensures.kept c.told_by.ensures.told c.requires.sent
 
 pub returns : goal.returns
-returns c = sent_with c.write_line_delays.ensures c.told_by.ensures.0 c.sent_after.ensures
+returns c = sent_with c.requires.accepted c.write_line_delays.ensures c.told_by.ensures.said c.sent_after.ensures

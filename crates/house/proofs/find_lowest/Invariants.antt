@@ -1,10 +1,9 @@
-use Rattle.rules.specs.Lists.{total, below}
-use Rattle.house.specs.Nodes.{digit}
+use Prim.Native.Nat.{◌-◌}
 use Rattle.house.proofs.Searching.{Walking}
 use Rattle.house.proofs.find_lowest.Given as goal
 
 abbrev pub invariant-loop-i : goal.invariant-loop-i
-invariant-loop-i l = Walking l.h.links l.left l.i l.from l.fraction l.opposite l.inbox l.quiet l.cursor
+invariant-loop-i l = Walking l.h.links l.i l.net l.state l.search
 
 abbrev pub decreases-loop-i : goal.decreases-loop-i
-decreases-loop-i l = total (digit l.left) (below 64)
+decreases-loop-i l = l.nodes - l.i

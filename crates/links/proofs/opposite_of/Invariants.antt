@@ -1,11 +1,9 @@
-use Prim.Native.Nat.{◌-◌}
+use Prim.Native.Nat.{◌+◌}
+use mathlib.Core.Path.{◌≡◌}
 use lib.ListN.{length}
 use Rattle.rules.proofs.First.{Searched}
-use Rattle.links.specs.List.{turns_at}
+use Rattle.links.specs.List.{row_start, turns_at}
 use Rattle.links.proofs.opposite_of.Given as goal
 
 abbrev pub invariant-loop-k : goal.invariant-loop-k
-invariant-loop-k l = Searched (turns_at l.links l.j) (length l.links) l.k
-
-abbrev pub decreases-loop-k : goal.decreases-loop-k
-decreases-loop-k l = l.row.end - l.k
+invariant-loop-k l = record { searched : Searched (turns_at l.links l.j) (length l.links) l.k-iterator.start; ends : l.k-iterator.end ≡ row_start (l.l.to + 1) l.links }

@@ -1,17 +1,11 @@
 use borrow.Author.Rules.{rules}
-use Rattle.messages.proofs.Beginning.{beginning_none, beginning_more, beginning_all}
+use native.Mathlib.Omega.{arith}
+use Rattle.messages.proofs.Beginning.{beginning_more, beginning_all}
 use Rattle.messages.proofs.begin.Goals as goal
 
-pub loop-i-init : goal.loop-i-init
-loop-i-init c = beginning_none c.requires.size
-
-pub row_quiet-q-requires : goal.row_quiet-q-requires
-row_quiet-q-requires c =
-    let pre = c.requires in
-    (search rules, pre.starts, pre.flow-starts, pre.rise c.loop-i.i c.loop-i-test.true, pre.flow-rise c.loop-i.i c.loop-i-test.true)
-
 pub loop-i-preserved : goal.loop-i-preserved
-loop-i-preserved c = beginning_more c.loop-i.invariant c.requires.few c.loop-i-test.true c.row_quiet-q.ensures c.finished_bit-finished.ensures.0 c.finished_bit-finished.ensures.1
+loop-i-preserved c = beginning_more c.loop-i.invariant (omega (arith, c.loop-i-test.true, c.from-i-end.ensures, c.requires.few)) c.row_quiet-q.ensures
+    (search rules)
 
 pub returns : goal.returns
-returns c = beginning_all c.loop-i.invariant c.loop-i-test.false
+returns c = beginning_all c.loop-i.invariant (omega (arith, c.loop-i-test.false, c.loop-i.auto.i-end, c.from-i-end.ensures))

@@ -1,9 +1,5 @@
-use Prim.Native.Nat.{◌-◌}
 use Rattle.messages.proofs.Beginning.{Beginning}
 use Rattle.messages.proofs.begin.Given as goal
 
 abbrev pub invariant-loop-i : goal.invariant-loop-i
-invariant-loop-i l = Beginning l.count l.starts l.flow_starts l.quiet l.finished l.i
-
-abbrev pub decreases-loop-i : goal.decreases-loop-i
-decreases-loop-i l = l.count - l.i
+invariant-loop-i l = Beginning l.starts l.flow_starts l.quiet l.finished l.i

@@ -1,13 +1,7 @@
-use Prim.Native.Nat.{◌-◌}
-use lib.ListN.{length}
-use Rattle.links.specs.List.{froms}
-use Rattle.messages.proofs.Running.{Running}
+use Rattle.node.specs.Net.{net_of}
+use Rattle.messages.specs.Round.{linked}
+use Rattle.messages.proofs.Running.{RunningIn}
 use Rattle.messages.proofs.run_links.Given as goal
 
 abbrev pub invariant-loop-k : goal.invariant-loop-k
-invariant-loop-k l =
-    Running l.h l.order l.traffic (froms l.links) l.starts l.flow_starts l.flow l.line l.fraction l.opposite l.inbox l.quiet l.t l.k
-
-abbrev pub decreases-loop-k : goal.decreases-loop-k
-decreases-loop-k l =
-    length l.order - l.k
+invariant-loop-k l = RunningIn l.h l.order (linked l.links (net_of l.net)) l.net.line.now l.state l.t l.k

@@ -1,5 +1,6 @@
-use borrow.Author.Rules.{rules}
+use Rattle.std.proofs.Common.{rules}
+use Rattle.numbers.proofs.Lines.{table-right}
 use Rattle.numbers.proofs.line_delay.Goals as goal
 
 pub returns : goal.returns
-returns c = c.requires.right c.args.load (search rules)
+returns c = table-right.right c.args.load (search rules)

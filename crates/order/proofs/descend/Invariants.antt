@@ -1,9 +1,10 @@
-use Prim.Native.Nat.{◌*◌, ◌-◌}
-use Rattle.order.proofs.Walking.{Walking}
+use Rattle.std.proofs.Common.{◌≡◌, ℕ, ◌+◌, ◌*◌, ◌≤◌, ◌<◌, get_or}
 use Rattle.order.proofs.descend.Given as goal
 
-abbrev pub invariant-loop-step : goal.invariant-loop-step
-invariant-loop-step l = Walking l.n l.order l.turn l.path l.deep l.b l.done l.step
-
-abbrev pub decreases-loop-step : goal.decreases-loop-step
-decreases-loop-step l = 2 * l.n - l.step
+-- after some steps: `done` nodes are noted, and the path to node b is `deep` nodes long
+abbrev pub invariant-loop : goal.invariant-loop
+invariant-loop l = record {
+  steps : 2 * l.done + l.deep ≡ l.counter;
+  node : l.b ≤ 64;
+  low : (k : ℕ) → k < l.deep → get_or l.path k 0 ≤ 64;
+}

@@ -1,15 +1,14 @@
-use mathlib.Core.Path.{sym, ◌∙◌}
-use Rattle.rules.proofs.First.{searched_none, searched_here, searched_more, searched_all}
+use borrow.Author.Rules.{rules}
+use mathlib.Core.Path.{◌≡◌}
+use mathlib.Core.Bool.{true, false}
+use Rattle.std.proofs.lemmas.Iterator.{first_from_Range}
+use Rattle.rules.specs.Loop.{on_loop}
+use Rattle.order.specs.Order.{sheet_of}
+use Rattle.order.proofs.Loops.{lowest_found}
 use Rattle.order.proofs.find_loop.Goals as goal
 
-pub loop-i-init : goal.loop-i-init
-loop-i-init c = λ traffic ls. searched_none
-
-pub returns-then-is_on_loop : goal.returns-then-is_on_loop
-returns-then-is_on_loop c = λ traffic ls. searched_here (c.loop-i.invariant traffic ls) c.loop-i-test.true (sym (c.is_on_loop.ensures traffic ls) ∙ c.if-is_on_loop.true)
-
-pub loop-i-preserved : goal.loop-i-preserved
-loop-i-preserved c = λ traffic ls. searched_more (c.loop-i.invariant traffic ls) c.loop-i-test.true (sym (c.is_on_loop.ensures traffic ls) ∙ c.if-is_on_loop.false)
-
 pub returns : goal.returns
-returns c = λ traffic ls. searched_all (c.loop-i.invariant traffic ls) c.loop-i-test.false
+returns c = λ traffic ls.
+    let loops = on_loop (sheet_of c.args.h c.args.columns.now traffic ls) in
+    let v = first_from_Range _ _ _ _ (λ i. loops i ≡ true) (λ i. loops i ≡ false) c.find.ensures.ran (λ i q e. search rules) (λ i q e. (search rules, search rules)) in
+    lowest_found loops c.args.h.head.nodes c.map.result (search rules)

@@ -1,22 +1,18 @@
-use borrow.Author.Rules.{rules}
 use Rattle.order.proofs.Flowing.{rowed, tested_order}
 use Rattle.order.proofs.Loops.{order_given, peeled_given, loop_given}
 use Rattle.order.proofs.find_order.Goals as goal
 
 pub guess-requires : goal.guess-requires
-guess-requires c = (rowed c.requires, c.requires.order, c.requires.turns)
+guess-requires c = rw c.from-n.ensures (rowed c.requires)
 
 pub is_order-requires : goal.is_order-requires
-is_order-requires c = (rowed c.requires, search rules, search rules)
+is_order-requires c = rw c.from-n.ensures (rowed c.requires)
 
 pub returns-then-is_order : goal.returns-then-is_order
-returns-then-is_order c = order_given c.args.h c.requires.links (tested_order c.requires (c.is_order.ensures c.if-is_order.true)) (search rules, search rules)
+returns-then-is_order c = order_given c.args.h c.requires.links (tested_order c.requires (rw c.from-n.ensures at (c.is_order.ensures c.if-is_order.true)))
 
 pub returns-then-peel-n : goal.returns-then-peel-n
-returns-then-peel-n c = peeled_given c.args.h c.requires.links c.peel.ensures c.if-peel-n.true
-
-pub find_loop-requires : goal.find_loop-requires
-find_loop-requires c = c.requires.links
+returns-then-peel-n c = peeled_given c.args.h c.requires.links c.peel.ensures (rw c.from-n.ensures at c.if-peel-n.true)
 
 pub returns : goal.returns
-returns c = loop_given c.args.h c.requires.links c.peel.ensures c.if-peel-n.false c.find_loop.ensures
+returns c = loop_given c.args.h c.requires.links c.peel.ensures (rw c.from-n.ensures at c.if-peel-n.false) c.find_loop.ensures

@@ -1,18 +1,12 @@
 use borrow.Author.Rules.{rules}
-use Rattle.order.proofs.Taking.{links_wide, next-none, next_here, next_more, next_all}
+use Rattle.std.proofs.lemmas.Iterator.{first_from_Range}
+use Rattle.std.proofs.Common.{ℕ, get_or}
+use Rattle.order.specs.Inside.{BareBelow}
+use Rattle.order.proofs.Taking.{next}
 use Rattle.order.proofs.next_bare.Goals as goal
 
-pub loop-k-init : goal.loop-k-init
-loop-k-init c = next-none c.requires.3
-
-pub is_bare-requires : goal.is_bare-requires
-is_bare-requires c = (links_wide c.requires.0, search rules)
-
-pub returns-then-is_bare : goal.returns-then-is_bare
-returns-then-is_bare c = next_here c.loop-k.invariant c.is_bare.ensures c.if-is_bare.true
-
-pub loop-k-preserved : goal.loop-k-preserved
-loop-k-preserved c = next_more c.loop-k.invariant c.is_bare.ensures c.if-is_bare.false c.loop-k-test.true
-
 pub returns : goal.returns
-returns c = next_all c.loop-k.invariant c.loop-k-test.false
+returns c = let a = c.args in
+    let bare : ℕ → Type 0 = λ k. BareBelow a.h.links a.columns.now a.order.now.turn a.tail (get_or a.order.now.order k 0) in
+    next a.h.head.nodes a.h.links a.columns.now a.order.now a.tail c.find.result
+    (rw c.from-n.ensures at (first_from_Range _ _ _ _ bare (λ k. ¬ bare k) c.find.ensures.ran (λ k q e. search rules) (λ k q e. (search rules, search rules))))

@@ -1,15 +1,22 @@
-use mathlib.Core.Path.{refl}
-use Rattle.play.proofs.Playing.{nothing, framable, framed-stopped, framed-left}
+use Rattle.admit.proofs.Judging.{handed_on}
+use Rattle.node.proofs.Held.{links-few}
+use Rattle.play.proofs.Playing.{held-lent, framed-stopped, rows-lent, framed-left}
 use Rattle.play.proofs.frame_accepted.Goals as goal
 
-pub run_lines-ran-requires : goal.run_lines-ran-requires
-run_lines-ran-requires c = (c.requires.0, nothing, nothing, refl, c.requires.2)
+pub shared_ref_as_front-write_line_delays : goal.shared_ref_as_front-write_line_delays
+shared_ref_as_front-write_line_delays c = links-few c.requires.accepted.1.ready.held.graph
 
-pub write_frames-requires : goal.write_frames-requires
-write_frames-requires c = framable c.run_lines-ran.ensures c.requires.0.1.ready c.in-Left.is c.requires.1
+pub run_list-requires-clause-held : goal.run_list-requires-clause-held
+run_list-requires-clause-held c = held-lent c.args.h c.args.net.now c.lend-lent.result c.lend-lent.ensures.net c.lend-lent.ensures.line c.write_line_delays.ensures c.requires.accepted.1.ready
 
-pub returns-in-Stopped : goal.returns-in-Stopped
-returns-in-Stopped c = framed-stopped c.run_lines-ran.ensures c.in-Stopped.is
+pub returns-in_err-run_list : goal.returns-in_err-run_list
+returns-in_err-run_list c = framed-stopped c.args.h c.args.net.now c.lend-lent.result c.lend-lent.ensures.net c.lend-lent.ensures.line c.write_line_delays.ensures c.run_list.ensures c.in_err-run_list.was (handed_on c.from_residual.ensures)
 
-pub returns-in-Left : goal.returns-in-Left
-returns-in-Left c = framed-left c.run_lines-ran.ensures c.in-Left.is c.write_frames.ensures
+pub write_frames-requires-clause-rows : goal.write_frames-requires-clause-rows
+write_frames-requires-clause-rows c = rows-lent c.args.h c.args.net.now c.lend-lent.result c.lend-lent.ensures.net c.lend-lent.ensures.line c.write_line_delays.ensures c.run_list.ensures c.in_ok-run_list.was c.requires.accepted.1.ready
+
+pub write_frames-requires-clause-step : goal.write_frames-requires-clause-step
+write_frames-requires-clause-step c = c.requires.accepted.1.ready.held.graph.sound.step-top
+
+pub returns : goal.returns
+returns c = rw c.from.ensures (framed-left c.args.h c.args.net.now c.lend-lent.result c.lend-lent.ensures.net c.lend-lent.ensures.line c.write_line_delays.ensures c.run_list.ensures c.in_ok-run_list.was c.write_frames.ensures)

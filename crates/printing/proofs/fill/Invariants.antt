@@ -3,7 +3,10 @@ use Rattle.std.specs.Io.KnownBytes.{Consumes}
 use Rattle.printing.proofs.fill.Given as goal
 
 abbrev pub invariant-loop-n : goal.invariant-loop-n
-invariant-loop-n g l = (l.n ≤ length l.buf) × Consumes (g.R.Read.remaining l.initial.reader) (g.R.Read.remaining l.reader) (take l.n l.buf)
+invariant-loop-n g l = record {
+  within : l.n ≤ length l.buf;
+  so_far : Consumes (g.R.Read.remaining l.initial.reader) (g.R.Read.remaining l.reader) (take l.n l.buf);
+}
 
 abbrev pub decreases-loop-n : goal.decreases-loop-n
 decreases-loop-n g l = length l.initial.buf - l.n

@@ -1,9 +1,7 @@
-use Prim.Native.Nat.{◌-◌}
+use Rattle.std.proofs.Common.{◌≡◌}
+use Rattle.sheet.specs.Held.{Lent}
 use Rattle.sheet.proofs.Links.{LinksSoFar}
 use Rattle.sheet.proofs.take_links.Given as goal
 
 abbrev pub invariant-loop-k : goal.invariant-loop-k
-invariant-loop-k l = LinksSoFar l.b l.start l.n l.from l.to l.load l.fraction l.k l.o l.least
-
-abbrev pub decreases-loop-k : goal.decreases-loop-k
-decreases-loop-k l = l.room - l.k
+invariant-loop-k l = record { taken : LinksSoFar l.b l.start l.n l.columns l.k l.o l.least; traffic : l.columns.traffic ≡ l.initial.columns.traffic; lent : Lent l.columns }
