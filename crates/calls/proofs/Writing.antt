@@ -22,7 +22,7 @@ module _ {h : SheetHeld} {net : NetHeld} (accepted : Admitted h net) where
   pub given : {line : List ℕ} → LinesOf (take h.links net.columns.load) (replicate 512 0) line → Given h net line
   given lines = record { from = net.columns.from; to = net.columns.to; load = net.columns.load; turn = net.order.turn; ordered = ordered lines }
 
-  -- for House order
+  -- for House order; it stands in false_states too, since no crate below both knows house and admit
   pub graph-held : GraphIn h net
   graph-held = record {
     tr = net.columns.traffic;

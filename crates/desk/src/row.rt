@@ -59,6 +59,7 @@ impl RowLent<'_> {
         ensures small { result.0 ≤ largest_delay }
     {
         let mut sum = DelaySum(0);
+        // `as` here and below, which is proved to lose nothing: with `From` the proof didn't close.
         for &p in self.flow {
             sum += self.way_at(p as usize).weighed();
         }

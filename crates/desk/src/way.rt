@@ -7,7 +7,7 @@ use crate::{Told, delay_told, is_marked};
 use numbers::{Delay, Fraction, Step, Traffic};
 use std::ops::AddAssign;
 
-// More than any candidate costs.
+// More than any candidate costs; for what is none, so that `lower` compares two costs and no cases.
 pub const BEYOND: Delay = Delay(Delay::LARGEST.0 * 2);
 
 // A link's line and fraction, and the word of its far node, each within what the rules allow.

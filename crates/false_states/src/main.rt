@@ -234,7 +234,7 @@ fn row_on_plate_a(delay: Delay) -> RowHeld
     }
 }
 
-// A word is four times its delay, and 1, and 2 more with the blocked mark.
+// A word is four times its delay, and 1, and 2 more with the blocked mark. Desk's own readers are private, and typed.
 fn delay_in(w: Told) -> u32 {
     w.0 / 4
 }
@@ -304,6 +304,7 @@ fn follow_case(b: &[u8], fraction: &mut [u32; 512]) -> Follows {
     if LARGEST_STORED < delay || 1 < mark {
         return Follows::Nothing;
     }
+    // The input says the question by a byte, here and nowhere else.
     let asked = match question {
         1 => Question::Carries(usize::from(u16::from_be_bytes([k0, k1]))),
         2 => Question::Rows,

@@ -70,7 +70,8 @@ fn is_opposite(l: Link, m: Link) -> bool
 
 // ---- The list.
 
-// The first place of a link from node i or a higher one; the list's length where there is none.
+// The first place of a link from node i or a higher one; the list's length where there is none. Walked from the front: nothing is asked of
+// the list's order, as a search would.
 fn row_start(links: &[Link], i: u16) -> usize
     ensures { result ≡ row_start i links.now }
 {

@@ -10,7 +10,7 @@ ghost use Rattle.network.specs.Answers.{RowSurveyed, wrong_sum, SurveyedIn};
 use numbers::Fraction;
 use sheet::{Columns, SheetHeld};
 
-// A sum of fractions.
+// A sum of fractions. Desk has one of delays: two types, so that neither is taken for the other.
 #[derive(Clone, Copy)]
 pub struct FractionSum(pub u64);
 

@@ -70,7 +70,8 @@ impl NetHeld {
     }
 }
 
-// A part of a column: a row's places in the links, or its flowing places.
+// A part of a column: a row's places in the links, or its flowing places. Not a `Range`, which is not `Copy`: a part cuts three slices.
+// Other crates want others of a row's four ends, and read them themselves.
 #[derive(Clone, Copy)]
 struct Part {
     start: usize,

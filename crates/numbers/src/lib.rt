@@ -20,7 +20,7 @@ pub struct Delay(pub u32);
 #[derive(Clone, Copy, Debug, Default, PartialEq, Eq, PartialOrd, Ord)]
 pub struct Traffic(pub u32);
 
-// The step of a round. 0 is no step, so it has no default.
+// The step of a round. 0 is no step, so it has no default. Its bound is asked in clauses: a head's step is read before it is judged.
 #[derive(Clone, Copy, Debug, PartialEq, Eq, PartialOrd, Ord)]
 pub struct Step(pub u32);
 
@@ -124,6 +124,7 @@ static LINE_DELAYS: [u32; 256] = [
 pub fn line_delay(load: u8) -> Delay
     ensures { result.0 ≡ line_delay load }
 {
+    // `as`, which is proved to lose nothing: with `From` the proof didn't close.
     Delay(LINE_DELAYS[load as usize])
 }
 

@@ -42,6 +42,7 @@ const PLATE_B: Plate = Plate {
     ..PLATE_A
 };
 
+// The records' kinds stand as bytes: this crate stands on no other.
 // A number of four bytes has the high byte first.
 fn put_head<W: Write>(out: &mut W, step: u32) -> io::Result<()> {
     out.write_all(&[1, 3, 0])?;

@@ -33,7 +33,7 @@ pub fn read_full<R: Input>(rt: &R, buf: &mut [u8]) -> io::Result<usize>
     fill(&mut rt.reader(), buf)
 }
 
-// How many nodes a sheet says that it has; 0 where it ends before that.
+// How many nodes a sheet says that it has; 0 where it ends before that, since no node is printed then either.
 pub fn nodes(sheet: &[u8]) -> usize
     ensures { result ≡ get_or sheet.now 1 0 }
 {

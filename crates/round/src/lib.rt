@@ -39,6 +39,7 @@ pub fn tell_all(h: SheetHeld, net: &NetHeld, line: &[u32; 512], inbox: &mut [u32
     requires quiet { Empty inbox.old }
     ensures { ToldFor h net.now line.now inbox.new }
 {
+    // Written out, so that the proof sees the rows themselves.
     let rows = RowsLent {
         starts: &net.rows.starts,
         flow_starts: &net.rows.flow_starts,

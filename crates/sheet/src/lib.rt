@@ -25,6 +25,7 @@ pub struct HeadHeld {
     pub step: Step,
 }
 
+// A link as it is read. Not `links::Link`: one struct for both made Check slower (docs/DECISIONS.md).
 #[derive(Clone, Copy, PartialEq, Eq, Debug)]
 pub struct LinkHeld {
     pub from: u8,
@@ -66,7 +67,7 @@ struct LinksTaken {
     behind: usize,
 }
 
-// The head, and how many links stand in the columns.
+// The head, and how many links stand in the columns. Beside them, since it is the answer of who reads a sheet.
 #[derive(Clone, Copy, PartialEq, Eq, Debug)]
 pub struct SheetHeld {
     pub head: HeadHeld,
@@ -210,7 +211,7 @@ fn key_of(from: u8, to: u8) -> u32
     u32::from(from) * 256 + u32::from(to)
 }
 
-// Is it a link record, in range and not below the least key that may come?
+// Is it a link record, in range and not below the least key that may come? The kind is the byte that was read.
 fn is_next(least: u32, kind: u8, n: u8, l: LinkHeld) -> bool
     ensures { result ≡ (leb least (key_of l.from l.to) && (eqb kind 3 && in_range n (link_said l))) }
 {
