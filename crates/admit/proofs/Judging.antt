@@ -20,7 +20,8 @@ use Rattle.sheet.specs.Held.{read_said, sheet_in, found_said, SheetGiven}
 use Rattle.sheet.proofs.Facts.{SheetFacts, given_facts}
 use Rattle.links.specs.Opposites.{Paired}
 use Rattle.network.specs.Answers.{SurveyedIn}
-use Rattle.network.proofs.Rows.{held-length, rising_sorted}
+use Rattle.sheet.proofs.Facts.{held-length}
+use Rattle.network.proofs.Rows.{rising_sorted}
 use Rattle.order.specs.Order as order
 use Rattle.node.specs.declared.NetHeld.{NetHeld}
 use Rattle.admit.specs.Opened.{refusing, verdict_said, Sized, Worked, JudgeAsked, Judged, Ready, OpenedGiven}

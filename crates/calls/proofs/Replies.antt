@@ -16,7 +16,7 @@ use Rattle.rules.proofs.Next.{next-length}
 use Rattle.rules.proofs.Demands.{house-order}
 use Rattle.sheet.specs.declared.SheetHeld.{SheetHeld}
 use Rattle.sheet.specs.Held.{sheet_in}
-use Rattle.network.proofs.Rows.{held-length}
+use Rattle.sheet.proofs.Facts.{held-length}
 use Rattle.node.specs.declared.NetHeld.{NetHeld}
 use Rattle.admit.specs.Opened.{opened_said, OpenedGiven, Ready}
 use Rattle.calls.specs.Written.{roomy, NextWritten}

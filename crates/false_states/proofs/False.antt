@@ -3,12 +3,10 @@ use Prim.Native.Nat.{ℕ, ◌/◌, ◌≤◌, ◌<◌}
 use native.Mathlib.Omega.{arith}
 use native.Mathlib.Decide.{ℕ_discrete, dec_lt}
 use mathlib.Core.Path.{◌≡◌, refl, sym, ap, ap₂, subst, ◌∙◌}
-use mathlib.Core.Bool.{Bool, true, false}
+use mathlib.Core.Bool.{false}
 use mathlib.Core.List.{List, [], ◌∷◌}
 use lib.ListN.{length, get_or, set, take, drop, replicate}
 use lib.Seq.{get_or-set_same, get_or-set_other, take_at}
-use lib.Dec.{eqb}
-use borrow.Author.Tests.{eqb-true}
 use Rattle.std.specs.Prelude.{Result, Ok, Err}
 use Rattle.rules.specs.Sheet.{Link, Sheet, largest_stored}
 use Rattle.rules.specs.Bytes.{bytes}
@@ -22,8 +20,9 @@ use Rattle.numbers.specs.Lines.{LinesOf}
 use Rattle.answers.specs.declared.Refusal.{Refusal}
 use Rattle.desk.specs.declared.Message.{Message}
 use Rattle.desk.specs.Ways.{told_of, message_said}
+use Rattle.desk.proofs.Places.{delay_is}
 use Rattle.sheet.specs.declared.SheetHeld.{SheetHeld}
-use Rattle.network.proofs.Rows.{held-length, held-at}
+use Rattle.sheet.proofs.Facts.{held-length, held-at}
 use Rattle.node.specs.declared.NetHeld.{NetHeld}
 use Rattle.node.specs.declared.NetLent.{NetLent}
 use Rattle.node.specs.Net.{state_said, SmallInbox, NetIn, net_sheet, net_of, unordered, RowsRise, Renewed, Lendable, Empty}
@@ -44,7 +43,7 @@ use Rattle.admit.specs.Opened.{Admitted, OpenedGiven}
 use Rattle.admit.proofs.Lines.{net-ready}
 use Rattle.false_states.specs.declared.Question.{Question}
 use Rattle.false_states.specs.declared.Follows.{Follows}
-use Rattle.false_states.specs.False.{carried_by, taken_by, NetWith, sheet_with, Placed, Word, SentAsked, Sent, RowsAsked, RowsTaken, TakenWith, word_said, FollowedBy, Followed, sent_by, row_by, everything}
+use Rattle.false_states.specs.False.{carried_by, taken_by, NetWith, net_sheet_with, Placed, Word, SentAsked, Sent, RowsAsked, RowsTaken, TakenWith, word_said, FollowedBy, Followed, sent_by, row_by, everything}
 
 -- each row is its desk's new row, whatever far nodes the rows have
 abbrev AllRenewed : ℕ → ℕ → List ℕ → List ℕ → List ℕ → List ℕ → List ℕ → List ℕ → Type 0
@@ -67,13 +66,6 @@ module _ (net : NetHeld) (l : NetLent) {line : List ℕ} (is : net_of l ≡ unor
 
   pub run-back : {r : Result Tally Refusal} {h : SheetHeld} {js : List ℕ} {st : StateHeld} → ListRunIn r h js (net_of l) l.line.now st → ListRunIn r h js net line st
   run-back {r} {h} {js} {st} = given_back net l is at (λ n ls. ListRunIn r h js n ls st)
-
-told-delay : (x : ℕ) → delay_told (told_of x) ≡ x / 4
-told-delay x = go (eqb x 0) refl
-  where
-    go : (b : Bool) → eqb x 0 ≡ b → delay_told (told_of x) ≡ x / 4
-    go true e = let z = eqb-true x 0 e in rw z
-    go false e = rw e
 
 -- ---- a word stored on link j
 module _ {h : SheetHeld} {tr fs ts ls xs ss os : List ℕ} where
@@ -99,7 +91,7 @@ module _ {h : SheetHeld} {tr fs ts ls xs ss os : List ℕ} where
           arith,
           ap (λ (x : ℕ). delay_told (get_or (set st j (told_of w)) x silent)) e,
           ap delay_told (get_or-set_same st j (told_of w) silent (omega (arith, state_length h.links os inbox))),
-          told-delay w,
+          delay_is w,
           word.small,
         )
         other o (no ne) b = omega (arith, ap delay_told (get_or-set_other st j o (told_of w) silent ne))
@@ -108,9 +100,9 @@ module _ {h : SheetHeld} {tr fs ts ls xs ss os : List ℕ} where
         go (no n) = let z = kept_now.beyond k (omega arith) in rw z (omega arith)
         go (yes a) = omega (
           arith,
-          told-delay (get_or inbox' k 0),
+          delay_is (get_or inbox' k 0),
           ap delay_told (at_place kept_now k a ∙ ap (λ (x : State). get_or x (get_or os k 0) silent) (put.said kept inside)),
-          other (get_or os k 0) (ℕ_discrete (get_or os k 0) j) (omega (arith, ap delay_told (at_place kept k a), told-delay (get_or inbox k 0), small k)),
+          other (get_or os k 0) (ℕ_discrete (get_or os k 0) j) (omega (arith, ap delay_told (at_place kept k a), delay_is (get_or inbox k 0), small k)),
         )
 
 pub empty-small : {inbox : List ℕ} → Empty inbox → SmallInbox inbox
@@ -153,7 +145,7 @@ module _ {j w k : ℕ} {h : SheetHeld} {net : NetHeld} {line : List ℕ} (asked 
             ap told_of e
             ∙ sym (state_at h.links net.opposite st''.inbox k asked.sent)
             ∙ ap (λ (s : State). get_or s k silent) (done.said n (false_now n) asked.sent)
-            ∙ ap (λ (s : State). get_or (deliver (sheet_with h net ts ls net.columns.fraction) s k) k silent)
+            ∙ ap (λ (s : State). get_or (deliver (net_sheet_with h net ts ls net.columns.fraction) s k) k silent)
             (put.said (begun_now n) asked.stored ∙ ap (λ (s : State). set s j (told_of w)) (state_start n empty));
       }
 
@@ -185,7 +177,7 @@ module _ {j w : ℕ} {h : SheetHeld} {net : NetHeld} {line : List ℕ} (asked : 
             let same : state_said h.links net.opposite st.inbox ≡ s = unleft (ran.said n ∙ q) in (
               refl,
               outcome-held n st'.inbox ys size_now (renewed ts (far-rise n))
-                  ∙ ap (outcome (sheet_with h net ts ls net.columns.fraction)) (put.said (kept-left n) asked.stored ∙ ap (λ (x : State). set x j (told_of w)) same),
+                  ∙ ap (outcome (net_sheet_with h net ts ls net.columns.fraction)) (put.said (kept-left n) asked.stored ∙ ap (λ (x : State). set x j (told_of w)) same),
             );
       }
         where

@@ -30,8 +30,8 @@ taken_by s st j w = outcome s (set st j w)
 abbrev pub NetWith : SheetHeld → NetHeld → List ℕ → List ℕ → List ℕ → Type 0
 NetWith h net ts ls line = Net h net.columns.traffic net.columns.from ts ls net.columns.fraction net.rows.starts net.rows.flow_starts net.rows.flow net.opposite line
 
-abbrev pub sheet_with : SheetHeld → NetHeld → List ℕ → List ℕ → List ℕ → Sheet
-sheet_with h net ts ls xs = sheet_said h net.columns.traffic net.columns.from ts ls xs
+abbrev pub net_sheet_with : SheetHeld → NetHeld → List ℕ → List ℕ → List ℕ → Sheet
+net_sheet_with h net ts ls xs = sheet_said h net.columns.traffic net.columns.from ts ls xs
 
 -- link j's place in the inbox
 pub record Placed (j : ℕ) (os inbox : List ℕ) : Type 0 where
@@ -52,7 +52,7 @@ pub record SentAsked (j w k : ℕ) (h : SheetHeld) (net : NetHeld) (line : List 
 
 -- what the rules send on link k where only link j was delivered and w is stored there
 pub record Sent (r j w k : ℕ) (h : SheetHeld) (net : NetHeld) (line : List ℕ) : Type 0 where
-  pub said : {ts ls : List ℕ} → NetWith h net ts ls line → told_of r ≡ carried_by (sheet_with h net ts ls net.columns.fraction) j (told_of w) k
+  pub said : {ts ls : List ℕ} → NetWith h net ts ls line → told_of r ≡ carried_by (net_sheet_with h net ts ls net.columns.fraction) j (told_of w) k
 
 pub record RowsAsked (j w : ℕ) (h : SheetHeld) (net : NetHeld) (line : List ℕ) : Type 0 where
   pub held : HeldIn h net line
@@ -61,13 +61,13 @@ pub record RowsAsked (j w : ℕ) (h : SheetHeld) (net : NetHeld) (line : List �
 
 -- where the list leaves a state, the answer is Ok, and the fractions ys are the outcome, by the rules, of that state with w stored on link j
 pub record RowsTaken (r : Result Unit Refusal) (js : List ℕ) (j w : ℕ) (h : SheetHeld) (net : NetHeld) (line ys : List ℕ) : Type 0 where
-  pub said : {ts ls : List ℕ} → NetWith h net ts ls line → (st : State) → run (sheet_with h net ts ls net.columns.fraction) js ≡ left st
-      → (r ≡ Ok tt) × (sheet_with h net ts ls ys ≡ taken_by (sheet_with h net ts ls net.columns.fraction) st j (told_of w))
+  pub said : {ts ls : List ℕ} → NetWith h net ts ls line → (st : State) → run (net_sheet_with h net ts ls net.columns.fraction) js ≡ left st
+      → (r ≡ Ok tt) × (net_sheet_with h net ts ls ys ≡ taken_by (net_sheet_with h net ts ls net.columns.fraction) st j (told_of w))
 
 -- the same of an accepted sheet and its house order
 pub record TakenWith (r : Result Unit Refusal) (j : ℕ) (m : Message) (h : SheetHeld) (net : NetHeld) (ys : List ℕ) : Type 0 where
   pub said : (st : State) → run (net_sheet h net) (house (net_sheet h net)) ≡ left st
-      → (r ≡ Ok tt) × (sheet_with h net net.columns.to net.columns.load ys ≡ taken_by (net_sheet h net) st j (message_said m))
+      → (r ≡ Ok tt) × (net_sheet_with h net net.columns.to net.columns.load ys ≡ taken_by (net_sheet h net) st j (message_said m))
 
 -- ---- of a sheet's bytes
 -- the word that the answer says

@@ -22,7 +22,8 @@ use Rattle.desk.specs.Ways.{told_of}
 use Rattle.sheet.specs.declared.SheetHeld.{SheetHeld}
 use Rattle.sheet.specs.Held.{sheet_said}
 use Rattle.network.specs.Rows.{Flow}
-use Rattle.network.proofs.Rows.{held-length, rising_sorted}
+use Rattle.sheet.proofs.Facts.{held-length}
+use Rattle.network.proofs.Rows.{rising_sorted}
 use Rattle.node.specs.declared.NetHeld.{NetHeld}
 use Rattle.node.specs.Net.{state_said, Graph, Net, Empty}
 use Rattle.node.proofs.Held.{state_length, links-few}

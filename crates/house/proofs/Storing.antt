@@ -15,7 +15,7 @@ use Rattle.rules.proofs.Alike.{status_alike}
 use Rattle.desk.specs.Ways.{told_of}
 use Rattle.sheet.specs.declared.SheetHeld.{SheetHeld}
 use Rattle.sheet.specs.Held.{sheet_said}
-use Rattle.network.proofs.Rows.{held-at}
+use Rattle.sheet.proofs.Facts.{held-at}
 use Rattle.node.specs.declared.NetHeld.{NetHeld}
 use Rattle.node.specs.Net.{state_said}
 use Rattle.node.proofs.Held.{state_length}

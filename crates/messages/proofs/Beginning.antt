@@ -20,13 +20,14 @@ use Rattle.sheet.specs.declared.SheetHeld.{SheetHeld}
 use Rattle.sheet.specs.Held.{sheet_said}
 use Rattle.network.specs.Rows.{part}
 use Rattle.network.proofs.Rows.{part_length, part-get_or}
-use Rattle.network.proofs.Rows.{held-length}
+use Rattle.sheet.proofs.Facts.{held-length}
 use Rattle.node.specs.Net.{state_said, Net, Empty}
 use Rattle.node.proofs.Held.{state_length, state_at, links-few}
 use Rattle.messages.specs.declared.Tally.{Tally}
 use Rattle.messages.specs.State.{is_silent, is_silent_flow, row_numbers, quiet_of, status_by, Kept, row_quiet, RowsAt, Begun}
 use Rattle.messages.proofs.Counts.{count_all, count_kept}
-use Rattle.messages.proofs.Statuses.{and_true, finished_by}
+use Rattle.sheet.proofs.Links.{and_true}
+use Rattle.messages.proofs.Statuses.{finished_by}
 
 bit_small : (b : Bool) → bit b ≤ 1
 bit_small true = omega arith

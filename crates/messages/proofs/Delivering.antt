@@ -3,11 +3,9 @@ use Prim.Native.Nat.{ℕ, ◌+◌, ◌/◌, ◌≤◌, ◌<◌}
 use native.Mathlib.Omega.{arith}
 use native.Mathlib.Decide.{dec_lt}
 use mathlib.Core.Path.{◌≡◌, refl, sym, ap, ◌∙◌}
-use mathlib.Core.Bool.{Bool, true, false}
+use mathlib.Core.Bool.{true}
 use mathlib.Core.List.{List}
 use lib.ListN.{get_or, set}
-use lib.Dec.{eqb}
-use borrow.Author.Tests.{eqb-true}
 use Rattle.rules.specs.Sheet.{Link, Sheet, largest_step, largest_stored}
 use Rattle.rules.specs.Desk.{Told, silent, told, heard, delay_told, message}
 use Rattle.rules.specs.Messages.{desk, link_of, sender}
@@ -15,9 +13,10 @@ use Rattle.rules.proofs.Right.{Right}
 use Rattle.rules.proofs.Words.{delay-top}
 use Rattle.desk.specs.declared.Message.{Message}
 use Rattle.desk.specs.Ways.{told_of, message_said}
+use Rattle.desk.proofs.Places.{delay_is}
 use Rattle.sheet.specs.declared.SheetHeld.{SheetHeld}
 use Rattle.sheet.specs.Held.{sheet_said}
-use Rattle.network.proofs.Rows.{held-length, held-at}
+use Rattle.sheet.proofs.Facts.{held-length, held-at}
 use Rattle.node.specs.Net.{RowAt, Tells, state_said, SmallInbox, Net}
 use Rattle.node.proofs.Held.{state_at, links-few, turns, desk-held, row-held}
 use Rattle.messages.specs.declared.Tally.{Tally}
@@ -67,13 +66,6 @@ delivered_by ys near as_index place far part alike some tells word put amended =
     delivered_is (rw (as_index, near) at tells) word (stored_at_lem some (rw (far, part, place, alike) at put)) amended
 
 -- ---- in a right state the stored delays are small
-told-delay : (x : ℕ) → delay_told (told_of x) ≡ x / 4
-told-delay x = go (eqb x 0) refl
-  where
-    go : (b : Bool) → eqb x 0 ≡ b → delay_told (told_of x) ≡ x / 4
-    go true e = let z = eqb-true x 0 e in rw z
-    go false e = rw e
-
 module _ {h : SheetHeld} {tr fs ts ls xs ss os inbox qs : List ℕ} {t : Tally} (kept : Kept h tr fs ts ls xs ss os inbox qs t) where
   abbrev s : Sheet
   s = sheet_said h tr fs ts ls xs
@@ -95,7 +87,7 @@ module _ {h : SheetHeld} {tr fs ts ls xs ss os inbox qs : List ℕ} {t : Tally} 
           let o : get_or os k 0 < h.links = kept.graph.opposites.low k a in
           omega (
             arith,
-            told-delay (get_or inbox k 0),
+            delay_is (get_or inbox k 0),
             small (told_of (get_or inbox k 0)) (λ e.
                 omega (
                   arith,

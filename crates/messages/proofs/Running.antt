@@ -20,7 +20,7 @@ use Rattle.answers.specs.declared.Fault.TheVariants.{NotWaiting, NoSuchLink}
 use Rattle.answers.specs.Answers.{fault_number}
 use Rattle.sheet.specs.declared.SheetHeld.{SheetHeld}
 use Rattle.sheet.specs.Held.{sheet_said}
-use Rattle.network.proofs.Rows.{held-length}
+use Rattle.sheet.proofs.Facts.{held-length}
 use Rattle.node.specs.declared.NetHeld.{NetHeld}
 use Rattle.node.specs.Net.{state_said, SmallInbox, Net, Empty}
 use Rattle.messages.specs.declared.StateHeld.{StateHeld}

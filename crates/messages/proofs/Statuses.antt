@@ -23,10 +23,6 @@ use Rattle.node.proofs.Held.{links-few, back-held}
 use Rattle.messages.specs.State.{row_numbers, is_silent, is_silent_flow, quiet_of, status_by}
 use Rattle.messages.proofs.Counts.{none_left, status_two}
 
-pub and_true : (a : Bool) {b : Bool} → b ≡ true → (a && b) ≡ a
-and_true true e = e
-and_true false e = refl
-
 pub heard-told : (x : ℕ) → heard (told_of x) ≡ not (eqb x 0)
 heard-told x = go (eqb x 0) refl
   where

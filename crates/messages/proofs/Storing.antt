@@ -19,7 +19,7 @@ use Rattle.rules.proofs.Lists.{total_but, count_le, below_length}
 use Rattle.desk.specs.Ways.{told_of}
 use Rattle.sheet.specs.declared.SheetHeld.{SheetHeld}
 use Rattle.sheet.specs.Held.{held_at, sheet_said}
-use Rattle.network.proofs.Rows.{held-at}
+use Rattle.sheet.proofs.Facts.{held-at}
 use Rattle.node.specs.Net.{state_said, Graph}
 use Rattle.node.proofs.Held.{state_length, state_at, links-few, held_in, stored}
 use Rattle.messages.specs.declared.Tally.{Tally}
@@ -28,7 +28,8 @@ use Rattle.messages.specs.declared.StateHeld.{StateHeld}
 use Rattle.messages.specs.declared.Change.TheVariants.{Again, Heard, Finished}
 use Rattle.messages.specs.State.{is_silent, is_silent_flow, quiet_of, status_by, fewer, change_of, step_of, Spare, Kept, LinkAt, waiting_at, Counted, StoredAt, Stored}
 use Rattle.messages.proofs.Counts.{count_same, count_but, heard-set}
-use Rattle.messages.proofs.Statuses.{and_true, heard-told, status-some, status_by_lem, finished_by}
+use Rattle.sheet.proofs.Links.{and_true}
+use Rattle.messages.proofs.Statuses.{heard-told, status-some, status_by_lem, finished_by}
 
 no_and : (a : Bool) {b : Bool} → b ≡ false → (a && b) ≡ false
 no_and true e = e

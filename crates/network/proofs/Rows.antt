@@ -1,12 +1,12 @@
 -- What callers take from the rows and the opposites.
-use Prim.Native.Nat.{ℕ, zero, suc, ◌+◌, ◌-◌, ◌≤◌, ◌<◌}
+use Prim.Native.Nat.{ℕ, ◌+◌, ◌-◌, ◌≤◌, ◌<◌}
 use native.Mathlib.Omega.{arith}
 use native.Mathlib.Decide.{dec_lt}
 use mathlib.Core.Path.{◌≡◌, sym, ap, ◌∙◌}
 use mathlib.Core.Logic.{⊎_elim}
 use mathlib.Core.Bool.{true}
-use mathlib.Core.List.{List, [], ◌∷◌, map}
-use lib.ListN.{length, get_or, drop, length-drop, length-map}
+use mathlib.Core.List.{List, [], map}
+use lib.ListN.{length, get_or, drop, length-drop}
 use lib.Seq.{length-take-le, get_or-take, get_or-drop}
 use lib.Dec.{eqb}
 use borrow.Author.Tests.{eq-eqb, ne_eqb}
@@ -15,11 +15,12 @@ use Rattle.rules.specs.Sheet.{Link, opposite, row_of}
 use Rattle.rules.specs.Check.{rises}
 use Rattle.rules.specs.Messages.{no_link}
 use Rattle.rules.proofs.Tests.{refuted, and_holds}
-use Rattle.rules.proofs.Lists.{get_or_in, total-map, keep-map, table_at, below_length}
+use Rattle.rules.proofs.Lists.{total-map, keep-map}
 use Rattle.rules.proofs.First.{first_iff}
 use Rattle.rules.proofs.Order.{Rising, rises_less, once}
 use Rattle.rules.proofs.Local.{opposite-ends}
 use Rattle.sheet.specs.Held.{held_at, held}
+use Rattle.sheet.proofs.Facts.{rising_at, held-length, held-at}
 use Rattle.links.specs.Opposites.{Opposites}
 use Rattle.network.specs.Rows.{part, Sorted, Rows}
 use Rattle.network.proofs.Parts.{keep_range, total-part}
@@ -71,29 +72,16 @@ module _ {n count : ℕ} {fs ss : List ℕ} (r : Rows n count fs ss) {i : ℕ} (
   row_sum_lem = range_sum row_of_lem
 
 -- ---- the order of the links
-rising_at : (ls : List Link) → Rising ls → (j k : ℕ) → j < k → k < length ls → rises (get_or ls j no_link) (get_or ls k no_link) ≡ true
-rising_at [] r j k l h = absurd (omega arith)
-rising_at (m ∷ ls) r zero (suc k) l h = r.0 (get_or ls k no_link) (get_or_in ls k no_link (omega arith))
-rising_at (m ∷ ls) r (suc j) (suc k) l h = rising_at ls r.1 j k (omega arith) (omega arith)
-rising_at (m ∷ ls) r zero zero l h = absurd (omega arith)
-rising_at (m ∷ ls) r (suc j) zero l h = absurd (omega arith)
-
 from_le : (l m : Link) → rises l m ≡ true → l.from ≤ m.from
 from_le l m e = ⊎_elim (λ a. omega arith) (λ a. omega arith) (rises_less l m e)
 
 module _ (count : ℕ) (fs ts ls xs : List ℕ) where
-  pub held-length : length (held count fs ts ls xs) ≡ count
-  held-length = length-map (below count) (held_at fs ts ls xs) ∙ below_length count
-
-  pub held-at : (j : ℕ) → j < count → get_or (held count fs ts ls xs) j no_link ≡ held_at fs ts ls xs j
-  held-at j h = table_at (held_at fs ts ls xs) no_link count j h
-
   -- the ends say which link it is
   ends_once : Rising (held count fs ts ls xs) → (j k : ℕ) → j < count → k < count → get_or fs j 0 ≡ get_or fs k 0 → get_or ts j 0 ≡ get_or ts k 0 → j ≡ k
   ends_once r j k a b p q =
-      once (held count fs ts ls xs) r j k (omega (arith, held-length)) (omega (arith, held-length))
-      (ap (λ (m : Link). m.from) (held-at j a) ∙ p ∙ ap (λ (m : Link). m.from) (sym (held-at k b)))
-      (ap (λ (m : Link). m.to) (held-at j a) ∙ q ∙ ap (λ (m : Link). m.to) (sym (held-at k b)))
+      once (held count fs ts ls xs) r j k (omega (arith, held-length count fs ts ls xs)) (omega (arith, held-length count fs ts ls xs))
+      (ap (λ (m : Link). m.from) (held-at count fs ts ls xs j a) ∙ p ∙ ap (λ (m : Link). m.from) (sym (held-at count fs ts ls xs k b)))
+      (ap (λ (m : Link). m.to) (held-at count fs ts ls xs j a) ∙ q ∙ ap (λ (m : Link). m.to) (sym (held-at count fs ts ls xs k b)))
 
   -- links in rising order are sorted by from
   pub rising_sorted : {n : ℕ} → Rising (held count fs ts ls xs) → ((j : ℕ) → j < count → get_or fs j 0 < n) → Sorted n count fs
@@ -101,8 +89,8 @@ module _ (count : ℕ) (fs ts ls xs : List ℕ) where
     where
       go : (j k : ℕ) → j ≤ k → k < count → Dec (j < k) → get_or fs j 0 ≤ get_or fs k 0
       go j k l h (yes b) =
-          let e = rising_at (held count fs ts ls xs) r j k b (omega (arith, held-length)) in
-          from_le (held_at fs ts ls xs j) (held_at fs ts ls xs k) (rw (held-at j (omega arith), held-at k h) at e)
+          let e = rising_at (held count fs ts ls xs) r j k b (omega (arith, held-length count fs ts ls xs)) in
+          from_le (held_at fs ts ls xs j) (held_at fs ts ls xs k) (rw (held-at count fs ts ls xs j (omega arith), held-at count fs ts ls xs k h) at e)
       go j k l h (no b) = let z : j ≡ k = omega arith in rw z (omega arith)
 
 -- ---- opposites

@@ -14,15 +14,15 @@ use Rattle.rules.specs.Messages.{State, back, desk, outcome, no_link}
 use Rattle.rules.proofs.Sound.{due_le}
 use Rattle.rules.proofs.Lists.{from_at, table_at, counted-length, below_length, in_below, get_or_in, map_eq}
 use Rattle.rules.specs.Check.{rises}
-use Rattle.rules.proofs.Order.{Rising, rises-to}
+use Rattle.rules.proofs.Order.{rises-to}
 use Rattle.rules.proofs.Local.{back-first}
 use Rattle.desk.specs.Ways.{told_of, ways_from, ways_of, desk_with}
 use Rattle.sheet.specs.declared.SheetHeld.{SheetHeld}
 use Rattle.sheet.specs.Held.{held_at, held, sheet_said}
 use Rattle.network.specs.Rows.{part}
 use Rattle.network.proofs.Rows.{part_length, part-get_or}
-use Rattle.network.proofs.Rows.{row_range_lem, row_sum_lem, held-length, held-at, opposite-turns, opposite-first}
-use mathlib.Core.Bool.{true}
+use Rattle.sheet.proofs.Facts.{held-length, held-at, rising_at}
+use Rattle.network.proofs.Rows.{row_range_lem, row_sum_lem, opposite-turns, opposite-first}
 use Rattle.node.proofs.Rows.{ways-length}
 use Rattle.node.specs.Net.{row_part, row_desk, RowAt, state_said, SmallInbox, RowsRise, Graph, Net, Lendable, Renewed}
 
@@ -224,12 +224,6 @@ module _ {h : SheetHeld} {tr fs ts ls xs ss gs ps os line : List ℕ} (net : Net
           ∙ ap (λ (x : ℕ). new_fraction (desk_of s (told_in inbox) i) (way_of (told_in inbox) (held_at fs ts ls xs x))) e
 
 -- ---- for every node at once
-rising_at : (ls : List Link) → Rising ls → (j k : ℕ) → j < k → k < length ls → rises (get_or ls j no_link) (get_or ls k no_link) ≡ true
-rising_at [] r j k a b = absurd (omega arith)
-rising_at (l ∷ ls) r j zero a b = absurd (omega arith)
-rising_at (l ∷ ls) r zero (suc k) a b = r.0 (get_or ls k no_link) (get_or_in ls k no_link (omega arith))
-rising_at (l ∷ ls) r (suc j) (suc k) a b = rising_at ls r.1 j k (omega arith) (omega arith)
-
 module _ {h : SheetHeld} {tr fs ts ls xs ss gs ps os line : List ℕ} (net : Net h tr fs ts ls xs ss gs ps os line) where
   -- the far nodes of a row rise, as its links do
   pub far-rise : (i : ℕ) → i < h.head.nodes → RowsRise i ss ts

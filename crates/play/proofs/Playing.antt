@@ -19,7 +19,7 @@ use Rattle.rules.proofs.Tally.{frames_length}
 use Rattle.numbers.specs.Lines.{LinesOf}
 use Rattle.sheet.specs.declared.SheetHeld.{SheetHeld}
 use Rattle.sheet.specs.Held.{held, sheet_said, WriteAsked, FractionsWritten}
-use Rattle.network.proofs.Rows.{held-length}
+use Rattle.sheet.proofs.Facts.{held-length}
 use Rattle.node.specs.declared.NetHeld.{NetHeld}
 use Rattle.node.specs.declared.NetLent.{NetLent}
 use Rattle.node.specs.Net.{state_said, NetIn, net_sheet, net_of, unordered, RowsRise, Renewed, Lendable}

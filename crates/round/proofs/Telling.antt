@@ -24,7 +24,7 @@ use Rattle.desk.specs.Ways.{told_of, message_said}
 use Rattle.desk.proofs.Places.{delay_is}
 use Rattle.sheet.specs.declared.SheetHeld.{SheetHeld}
 use Rattle.sheet.specs.Held.{held_at}
-use Rattle.network.proofs.Rows.{held-length, held-at}
+use Rattle.sheet.proofs.Facts.{held-length, held-at}
 use Rattle.node.specs.declared.NetHeld.{NetHeld}
 use Rattle.node.specs.Net.{RowAt, Tells, RowsRise, state_said, SmallInbox, Lendable, Renewed, net_sheet}
 use Rattle.node.proofs.Held.{state_length, state_at, links-few, turns, back-held, held_in, desk-held, row-held, outcome-held, far-rise, lendable}

@@ -113,7 +113,7 @@ pub node-length : (i : ℕ) (ts : List ℕ) → length (node_records i ts) ≡ 6
 node-length i [] = refl
 node-length i (t ∷ ts) = omega (arith, node-length (suc i) ts)
 
-link-length : (ls : List Link) → length (link_records ls) ≡ 8 * length ls
+pub link-length : (ls : List Link) → length (link_records ls) ≡ 8 * length ls
 link-length [] = refl
 link-length (l ∷ ls) = omega (arith, link-length ls)
 

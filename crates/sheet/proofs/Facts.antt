@@ -78,7 +78,7 @@ module _ (b : List ℕ) {s : Sheet} {e : ℕ} (q : sheet_alone b ≡ read s e) w
         ∙ append-nil (bytes s))
 
 -- ---- of the links that the columns hold
-rising_at : (ls : List Link) → Rising ls → (j k : ℕ) → j < k → k < length ls → rises (get_or ls j no_link) (get_or ls k no_link) ≡ true
+pub rising_at : (ls : List Link) → Rising ls → (j k : ℕ) → j < k → k < length ls → rises (get_or ls j no_link) (get_or ls k no_link) ≡ true
 rising_at [] r j k p q = absurd (omega arith)
 rising_at (l ∷ ls) r j zero p q = absurd (omega arith)
 rising_at (l ∷ ls) r zero (suc k) p q = r.0 (get_or ls k no_link) (get_or_in ls k no_link (omega arith))

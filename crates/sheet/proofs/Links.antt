@@ -24,7 +24,7 @@ use Rattle.rules.proofs.Steps.{links_stop, links_end, links-full, links-low, lin
 use Rattle.sheet.specs.declared.Columns.{Columns}
 use Rattle.sheet.specs.Held.{held_at, held, links_in, last_held, key_of, LinkRoom, stopped, TakenHeld, Lent}
 
-and_true : (a : Bool) {b : Bool} → b ≡ true → (a && b) ≡ a
+pub and_true : (a : Bool) {b : Bool} → b ≡ true → (a && b) ≡ a
 and_true true q = q
 and_true false q = refl
 

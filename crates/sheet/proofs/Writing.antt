@@ -10,7 +10,7 @@ use Rattle.rules.specs.Lists.{counted, below}
 use Rattle.rules.specs.Sheet.{Link, Sheet}
 use Rattle.rules.specs.Bytes.{four, head_record, node_records, link_record, link_records}
 use Rattle.rules.proofs.Lists.{below_last}
-use Rattle.rules.proofs.Reading.{bytes-length}
+use Rattle.rules.proofs.Reading.{node-length, link-length, bytes-length}
 use Rattle.sheet.specs.Held.{held_at, held, sheet_said, patched, Filled, WriteAsked, FractionsWritten}
 use Rattle.sheet.specs.declared.SheetHeld.{SheetHeld}
 use Rattle.sheet.proofs.Facts.{held-length}
@@ -25,10 +25,6 @@ patched-at o front w v behind {d} e same is =
     ap₂ (λ (x y : List ℕ). x ++ (w ++ y)) p q
 
 -- ---- the records of links
-records_length : (ls : List Link) → length (link_records ls) ≡ 8 * length ls
-records_length [] = refl
-records_length (l ∷ ls) = omega (arith, records_length ls)
-
 records_append : (ls ms : List Link) → link_records (ls ++ ms) ≡ link_records ls ++ link_records ms
 records_append [] ms = refl
 records_append (l ∷ ls) ms = ap (λ (x : List ℕ). link_record l ++ x) (records_append ls ms) ∙ sym (append_assoc (link_record l) (link_records ls) (link_records ms))
@@ -63,7 +59,7 @@ module _ {start count : ℕ} {xs old new : List ℕ} {j : ℕ} (h : Filling star
           let rest : List ℕ = link_records (map (held_at fs ts ls ys) (counted (suc j) (count - (j + 1)))) in
           let z : count - j ≡ suc (count - (j + 1)) = omega arith in
           let long : length (front ++ (done ++ lead)) ≡ start + 8 * j + 4 =
-          omega (arith, length-append front (done ++ lead), length-append done lead, records_length (held j fs ts ls xs), held-length j fs ts ls xs) in
+          omega (arith, length-append front (done ++ lead), length-append done lead, link-length (held j fs ts ls xs), held-length j fs ts ls xs) in
           let now-is : new ≡ (front ++ (done ++ lead)) ++ (four (get_or ys j 0) ++ (rest ++ behind)) =
           is ∙ ap (λ (k : ℕ). front ++ (done ++ (link_records (map (held_at fs ts ls ys) (counted j k)) ++ behind))) z
           ∙ sym (joined front done lead (four (get_or ys j 0) ++ (rest ++ behind))) in
@@ -74,10 +70,6 @@ module _ {start count : ℕ} {xs old new : List ℕ} {j : ℕ} (h : Filling star
           (sym (records_more j fs ts ls xs)) (sym (add-one j))
 
 -- ---- the whole
-nodes-length : (i : ℕ) (ts : List ℕ) → length (node_records i ts) ≡ 6 * length ts
-nodes-length i [] = refl
-nodes-length i (t ∷ ts) = omega (arith, nodes-length (suc i) ts)
-
 parts : (a b c d e : List ℕ) → (a ++ (b ++ (c ++ d))) ++ e ≡ (a ++ b) ++ (c ++ (d ++ e))
 parts a b c d e = simp append_assoc
 
@@ -90,7 +82,7 @@ filled_written {h} {n} {b} {xs} {old} asked nodes copy f = record {
       let front : List ℕ = head_record (s ys) ++ figures in
       let after : List ℕ = drop (length b) old in
       let count : length (s ys).traffic ≡ h.head.nodes = omega (arith, bytes-length (s ys), ap length e, asked.long, held-length h.links fs ts ls ys) in
-      let long : length front ≡ 7 + 6 * n = omega (arith, length-append (head_record (s ys)) figures, nodes-length 0 (s ys).traffic) in
+      let long : length front ≡ 7 + 6 * n = omega (arith, length-append (head_record (s ys)) figures, node-length 0 (s ys).traffic) in
       f.said front fs ts ls ys (9 ∷ after) long
       (copy ∙ ap (λ (l : List ℕ). l ++ after) (sym e) ∙ parts (head_record (s ys)) figures (link_records (held h.links fs ts ls ys)) (9 ∷ []) after)
       ∙ sym (parts (head_record (s xs)) figures (link_records (held h.links fs ts ls xs)) (9 ∷ []) after);
