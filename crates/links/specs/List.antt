@@ -1,10 +1,10 @@
 -- The links as one list of records: the one at a place, a node's row, and the opposite.
 use Rattle.std.specs.Prelude.{ℕ, ◌+◌, ◌<◌, ◌≡◌, Bool, List, map, ltb, length, get_or}
 use Rattle.std.specs.List.{prefix_len}
-use Rattle.std.specs.declared.ops.Range.{Range}
 use Rattle.rules.specs.Sheet.{Link as SheetLink, opposite}
 use Rattle.sheet.specs.declared.Columns.{Columns}
 use Rattle.links.specs.declared.Link.{Link}
+use Rattle.links.specs.declared.RowRange.{RowRange}
 
 -- the sheet's link that a record says
 abbrev pub link_said : Link → SheetLink
@@ -33,7 +33,7 @@ abbrev pub row_start : ℕ → List Link → ℕ
 row_start i ls = prefix_len (λ l. ltb l.from i) ls
 
 -- node i's row, where links rise by from: from its first link up to the first of a higher node
-abbrev pub row_range : ℕ → List Link → Range ℕ
+abbrev pub row_range : ℕ → List Link → RowRange
 row_range i ls = record { start = row_start i ls; end = row_start (i + 1) ls }
 
 -- the link at k is the opposite of the link at j

@@ -10,7 +10,6 @@ ghost use Rattle.links.specs.Opposites.{RisesTo, Paired};
 
 use numbers::Fraction;
 use sheet::{Columns, SheetHeld};
-use std::ops::Range;
 
 // A link's record. Its kind, which is 3, makes it eight whole bytes: a list with a byte to spare in each is cleared slowly.
 #[derive(Clone, Copy, PartialEq, Eq, Debug)]
@@ -24,7 +23,7 @@ pub struct Link {
 
 impl Link {
     // What stands where there is no link.
-    const NONE: Link = Link {
+    pub const NONE: Link = Link {
         kind: 0,
         from: 0,
         to: 0,
@@ -78,12 +77,22 @@ fn row_start(links: &[Link], i: u16) -> usize
     links.iter().take_while(|l| u16::from(l.from) < i).count()
 }
 
+// Where a node's row begins, and where the next node's does. Not the library's `Range`, which is not `Copy`.
+#[derive(Clone, Copy, PartialEq, Eq, Debug)]
+pub struct RowRange {
+    pub start: usize,
+    pub end: usize,
+}
+
 // Node i's row.
-pub fn row_of(links: &[Link], i: u8) -> Range<usize>
+pub fn row_of(links: &[Link], i: u8) -> RowRange
     ensures { result ≡ row_range i links.now }
 {
     let n = u16::from(i);
-    row_start(links, n)..row_start(links, n + 1)
+    RowRange {
+        start: row_start(links, n),
+        end: row_start(links, n + 1),
+    }
 }
 
 // The place of link j's opposite, where it is present: it is looked for in the row of the far node.
@@ -93,7 +102,8 @@ pub fn opposite_of(links: &[Link], j: usize) -> Option<usize>
     ensures { found_said result ≡ first (turns_at links.now j) (below (length links.now)) }
 {
     let l = links[j];
-    for k in row_of(links, l.to) {
+    let row = row_of(links, l.to);
+    for k in row.start..row.end {
         if is_opposite(l, links[k]) {
             return Some(k);
         }
@@ -101,12 +111,11 @@ pub fn opposite_of(links: &[Link], j: usize) -> Option<usize>
     None
 }
 
-// The list of the links that stand in the columns.
-pub fn list(count: usize, columns: &Columns) -> [Link; 512]
+// Puts the links that stand in the columns into a list that the caller lends: 4 KB, which `list` hands on by copying.
+pub fn put_list(count: usize, columns: &Columns, links: &mut [Link; 512])
     requires { count ≤ 512 }
-    ensures { ListedIn count columns.now result }
+    ensures { ListedIn count columns.now links.new }
 {
-    let mut links = [Link::NONE; 512];
     for j in 0..count {
         links[j] = Link {
             kind: 3,
@@ -116,6 +125,15 @@ pub fn list(count: usize, columns: &Columns) -> [Link; 512]
             fraction: Fraction(columns.fraction[j]),
         };
     }
+}
+
+// The list of the links that stand in the columns.
+pub fn list(count: usize, columns: &Columns) -> [Link; 512]
+    requires { count ≤ 512 }
+    ensures { ListedIn count columns.now result }
+{
+    let mut links = [Link::NONE; 512];
+    put_list(count, columns, &mut links);
     links
 }
 

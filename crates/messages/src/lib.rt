@@ -265,15 +265,10 @@ pub fn deliver_once(
     requires back { get_or net.now.opposite.now j 0 < h.links }
     ensures { DeliveredIn h j (net_of net.now) net.now.line.now state.old state.new t result }
 {
+    let mut links = [Link::NONE; 512];
+    links::put_list(h.links, net.columns, &mut links);
     let mut tally = t;
-    deliver(
-        h,
-        j,
-        &mut tally,
-        &links::list(h.links, net.columns),
-        net,
-        state,
-    );
+    deliver(h, j, &mut tally, &links, net, state);
     tally
 }
 
@@ -345,5 +340,7 @@ pub fn run_list(
     requires empty { Empty state.old.inbox }
     ensures { ListRunIn result h order.now (net_of net.now) net.now.line.now state.new }
 {
-    run_links(h, order, &links::list(h.links, net.columns), net, state)
+    let mut links = [Link::NONE; 512];
+    links::put_list(h.links, net.columns, &mut links);
+    run_links(h, order, &links, net, state)
 }

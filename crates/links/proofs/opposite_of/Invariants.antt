@@ -6,4 +6,4 @@ use Rattle.links.specs.List.{row_start, turns_at}
 use Rattle.links.proofs.opposite_of.Given as goal
 
 abbrev pub invariant-loop-k : goal.invariant-loop-k
-invariant-loop-k l = record { searched : Searched (turns_at l.links l.j) (length l.links) l.k-iterator.start; ends : l.k-iterator.end ≡ row_start (l.l.to + 1) l.links }
+invariant-loop-k l = record { searched : Searched (turns_at l.links l.j) (length l.links) l.k; ends : l.k-end ≡ row_start (l.l.to + 1) l.links }
