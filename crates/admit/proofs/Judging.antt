@@ -24,7 +24,7 @@ use Rattle.sheet.proofs.Facts.{held-length}
 use Rattle.network.proofs.Rows.{rising_sorted}
 use Rattle.order.specs.Order as order
 use Rattle.node.specs.declared.NetHeld.{NetHeld}
-use Rattle.admit.specs.Opened.{refusing, verdict_said, Sized, Worked, JudgeAsked, Judged, Ready, OpenedGiven}
+use Rattle.admit.specs.Opened.{refusing, verdict_said, Sized, Worked, JudgeAsked, Judged, ReadJudged, Ready, OpenedGiven}
 
 none_of : (f : Fault) {p : Option ℕ} {u : Unit} → refusing f p ≡ Ok u → p ≡ None
 none_of f {p = None} e = refl
@@ -94,17 +94,19 @@ module _ (b : List ℕ) (fit : AreBytes b) {g : Result (SheetHeld × ℕ) Refusa
     to_in = facts.to_in;
   }
 
-  pub opened : {r : Result Unit Refusal} {u : Unit} {net : NetHeld} → net.columns ≡ c → Judged r h net → r ≡ Ok u → Sized net → OpenedGiven (Ok h) b net
-  opened {r} {u} {net} kept judged q sizes = record { said = is_check; ready = ready }
+  pub read_judged : {r : Result Unit Refusal} {u : Unit} {net : NetHeld} → net.columns ≡ c → Judged r h net → r ≡ Ok u → ReadJudged (Ok h) b net
+  read_judged {r} {u} {net} kept judged q = record {
+    said = ap (λ (x : Result Unit Refusal). verdict_said x (sheet_in h net.columns)) (sym q) ∙ judged.said
+        ∙ ap (λ (x : Columns). judge (sheet_in h x)) kept
+        ∙ ap judged_of (ap (read_said (λ p. read (sheet_in p.0 c) p.1)) (sym e) ∙ given.said);
+    worked = subst (λ (x : Result Unit Refusal). IfOk x (λ v. Worked h net)) q judged.worked;
+  }
+
+-- ---- with the lengths of what was lent
+module _ (b : List ℕ) (fit : AreBytes b) {net : NetHeld} (sizes : Sized net) where
+  accepted_ready : {h : SheetHeld} → accepted (sheet_in h net.columns) ≡ check b → Worked h net → Ready h b net
+  accepted_ready {h} is_check worked = ready
     where
-      is_check : accepted (sheet_in h net.columns) ≡ check b
-      is_check = ap (λ (x : Result Unit Refusal). verdict_said x (sheet_in h net.columns)) (sym q) ∙ judged.said
-          ∙ ap (λ (x : Columns). judge (sheet_in h x)) kept
-          ∙ ap judged_of (ap (read_said (λ p. read (sheet_in p.0 c) p.1)) (sym e) ∙ given.said)
-
-      worked : Worked h net
-      worked = subst (λ (x : Result Unit Refusal). IfOk x (λ v. Worked h net)) q judged.worked
-
       sound : Sound (sheet_in h net.columns) × (bytes (sheet_in h net.columns) ≡ b)
       sound = check_gives b (sheet_in h net.columns) fit (sym is_check)
 
@@ -132,3 +134,7 @@ module _ (b : List ℕ) (fit : AreBytes b) {g : Result (SheetHeld × ℕ) Refusa
         stand = sound.1;
         long = sym (ap length sound.1) ∙ bytes-length (sheet_in h net.columns) ∙ figures;
       }
+
+  pub opened : {r : Result SheetHeld Refusal} → ReadJudged r b net → OpenedGiven r b net
+  opened {r = Ok h} judged = record { said = judged.said; ready = accepted_ready judged.said judged.worked; sizes = sizes }
+  opened {r = Err x} judged = record { said = judged.said; ready = tt; sizes = sizes }

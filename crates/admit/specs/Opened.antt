@@ -64,6 +64,11 @@ pub record Judged (r : Result Unit Refusal) (h : SheetHeld) (net : NetHeld) : Ty
   pub said : verdict_said r (sheet_in h net.columns) ≡ judge (sheet_in h net.columns)
   pub worked : IfOk r (λ _. Worked h net)
 
+-- Check's verdict, and on acceptance all that is worked out of the sheet
+pub record ReadJudged (r : Result SheetHeld Refusal) (b : List ℕ) (net : NetHeld) : Type 0 where
+  pub said : opened_said r net.columns ≡ check b
+  pub worked : IfOk r (λ h. Worked h net)
+
 -- an accepted sheet, with all that is worked out of it
 pub record Admitted (h : SheetHeld) (net : NetHeld) : Type 0 where
   pub graph : Graph h net.columns.traffic net.columns.from net.columns.to net.columns.load net.columns.fraction net.rows.starts net.opposite
@@ -77,6 +82,8 @@ pub record Ready (h : SheetHeld) (b : List ℕ) (net : NetHeld) : Type 0 where
   pub stand : bytes (sheet_in h net.columns) ≡ b
   pub long : length b ≡ 8 + 6 * h.head.nodes + 8 * h.links
 
+-- what was lent keeps its length on a refusal too
 pub record OpenedGiven (r : Result SheetHeld Refusal) (b : List ℕ) (net : NetHeld) : Type 0 where
   pub said : opened_said r net.columns ≡ check b
   pub ready : IfOk r (λ h. Ready h b net)
+  pub sizes : Sized net

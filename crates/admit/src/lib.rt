@@ -2,7 +2,7 @@
 #![tactic(auto)]
 
 ghost use Rattle.std.specs.Prelude.{◌≡◌, length};
-ghost use Rattle.admit.specs.Opened.{Sized, refusing, JudgeAsked, Judged, OpenedGiven};
+ghost use Rattle.admit.specs.Opened.{Sized, refusing, JudgeAsked, Judged, ReadJudged, OpenedGiven};
 
 use answers::{Fault, Refusal};
 use node::NetHeld;
@@ -56,11 +56,19 @@ fn size_up_all(net: &NetHeld)
     size_up(&net.order.turn);
 }
 
-pub fn open(b: &[u8], net: &mut NetHeld) -> Result<SheetHeld, Refusal>
-    ensures { OpenedGiven result b.now net.new }
+// The sheet that the bytes hold, judged.
+fn read_and_judge(b: &[u8], net: &mut NetHeld) -> Result<SheetHeld, Refusal>
+    ensures { ReadJudged result b.now net.new }
 {
     let (h, _) = sheet::read_alone(b, &mut net.columns)?;
     judge_whole(h, net)?;
-    size_up_all(net);
     Ok(h)
+}
+
+pub fn open(b: &[u8], net: &mut NetHeld) -> Result<SheetHeld, Refusal>
+    ensures { OpenedGiven result b.now net.new }
+{
+    let opened = read_and_judge(b, net);
+    size_up_all(net);
+    opened
 }

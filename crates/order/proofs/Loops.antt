@@ -6,7 +6,7 @@ use mathlib.Core.Path.{◌≡◌, sym, ◌∙◌, subst}
 use mathlib.Core.Bool.{Bool, true, false}
 use mathlib.Core.List.Memᴰ
 use mathlib.Core.List.{List, [], map, Memᴰ as In}
-use lib.ListN.{get_or}
+use lib.ListN.{length, get_or}
 use lib.Dec.{ltb, eqb}
 use borrow.Author.Tests.{ltb-true, lt-ltb, le-ltb, eq-eqb}
 use Rattle.rules.specs.Lists.{below, nowhere, first}
@@ -93,9 +93,9 @@ module _ (h : SheetHeld) {c : Columns} (w : Links h.head.nodes h.links c) where
         i
 
   -- ---- what find_order answers
-  module _ {o : OrderHeld} where
+  module _ {o : OrderHeld} (order_long : length o.order ≡ 64) (turn_long : length o.turn ≡ 64) where
     pub order_given : Order h.head.nodes h.links c.from c.to c.fraction o.order o.turn → OrderGiven None h c o
-    order_given r = record { said = λ traffic ls. sym (no_loop traffic ls o.turn r.falls); sorted = λ e. r }
+    order_given r = record { said = λ traffic ls. sym (no_loop traffic ls o.turn r.falls); sorted = λ e. r; order_long = order_long; turn_long = turn_long }
 
     module _ {tail : ℕ} (out : PeeledOut tail h.head.nodes h.links c o) where
       pub peeled_given : tail ≡ h.head.nodes → OrderGiven None h c o
@@ -108,4 +108,6 @@ module _ (h : SheetHeld) {c : Columns} (w : Links h.head.nodes h.links c) where
         sorted = λ e.
             let low = left_loop [] [] out (omega (arith, out.peeled.within)) in
             clash low.1.passes ((none_below (on_loop (sheet_of h c [] [])) h.head.nodes).0 (sym (said [] []) ∙ e) low.0 low.1.inside);
+        order_long = order_long;
+        turn_long = turn_long;
       }

@@ -1,5 +1,5 @@
 -- An order of the nodes in which every flowing link leads to an earlier one, and what is asked and answered about it.
-use Rattle.std.specs.Prelude.{ℕ, ◌≤◌, ◌<◌, ◌≡◌, List, get_or, replicate}
+use Rattle.std.specs.Prelude.{ℕ, ◌≤◌, ◌<◌, ◌≡◌, List, length, get_or, replicate}
 use Rattle.rules.specs.Lists.{below, nowhere, first}
 use Rattle.rules.specs.Sheet.{Sheet}
 use Rattle.rules.specs.Loop.{on_loop}
@@ -46,7 +46,9 @@ pub record Order (n count : ℕ) (fs ts xs ord turn : List ℕ) : Type 0 where
 abbrev pub sheet_of : SheetHeld → Columns → List ℕ → List ℕ → Sheet
 sheet_of h c traffic ls = sheet_with (head_said h.head) traffic (held h.links c.from c.to ls c.fraction)
 
--- 8's place; and where there is none, the order
+-- 8's place; and where there is none, the order. What was lent keeps its length in either case
 pub record OrderGiven (r : Option ℕ) (h : SheetHeld) (c : Columns) (o : OrderHeld) : Type 0 where
   pub said : (traffic ls : List ℕ) → found_said r ≡ first (on_loop (sheet_of h c traffic ls)) (below h.head.nodes)
   pub sorted : found_said r ≡ nowhere → Order h.head.nodes h.links c.from c.to c.fraction o.order o.turn
+  pub order_long : length o.order ≡ 64
+  pub turn_long : length o.turn ≡ 64

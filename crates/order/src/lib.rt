@@ -29,6 +29,15 @@ impl OrderHeld {
             turn: [0; 64],
         }
     }
+
+    // Says of the arrays what their types say, where a call has hidden it.
+    fn size_up(&self)
+        ensures order { length self.now.order ≡ 64 }
+        ensures turn { length self.now.turn ≡ 64 }
+    {
+        let _order = self.order.len();
+        let _turn = self.turn.len();
+    }
 }
 
 // ---- A guess. Nothing is promised of it: it is tested.
@@ -300,10 +309,13 @@ pub fn find_order(
 {
     let n = usize::from(h.head.nodes);
     guess(n, columns, rows, order);
+    order.size_up();
     if is_order(n, columns, rows, order) {
         return None;
     }
-    if peel(h, columns, order) == n {
+    let taken = peel(h, columns, order);
+    order.size_up();
+    if taken == n {
         return None;
     }
     find_loop(h, columns)

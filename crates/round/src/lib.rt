@@ -58,6 +58,7 @@ pub fn next_fractions(h: SheetHeld, net: &mut NetHeld, line: &[u32; 512], inbox:
     requires given { Given h net.old line.now }
     requires quiet { Empty inbox.old }
     ensures next { CalculatedFor h net.old line.now net.new.columns.fraction }
+    ensures long { length net.new.columns.fraction ≡ 512 }
     ensures rest { net.new ≡ with_fractions net.old net.new.columns.fraction }
 {
     tell_all(h, net, line, inbox);
