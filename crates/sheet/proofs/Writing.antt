@@ -1,11 +1,12 @@
 -- The sheet written again: the fractions put over its copy one link after the other.
-use Prim.Native.Nat.{ℕ, suc, ◌+◌, ◌-◌, ◌*◌, ◌<◌}
+use Prim.Native.Nat.{ℕ, suc, ◌+◌, ◌-◌, ◌*◌, ◌≤◌, ◌<◌}
 use mathlib.Core.Path.{◌≡◌, refl, sym, ap, ap₂, ◌∙◌}
 use mathlib.Core.List.{List, [], ◌∷◌, ◌++◌, map, map-append, append_assoc}
 use native.Mathlib.Omega.{arith}
 use native.Mathlib.Numerals.{add-one}
-use lib.ListN.{length, get_or, take, drop, length-append}
-use lib.Seq.{take_at, drop_at}
+use lib.ListN.{length, get_or, take, drop, set, length-append, length-set}
+use lib.Seq.{length-take-le, drop-cons, take-suc, append_snoc, set_at, take_at, drop_at}
+use Rattle.std.proofs.lemmas.List.{take_all}
 use Rattle.rules.specs.Lists.{counted, below}
 use Rattle.rules.specs.Sheet.{Link, Sheet}
 use Rattle.rules.specs.Bytes.{four, head_record, node_records, link_record, link_records}
@@ -14,6 +15,36 @@ use Rattle.rules.proofs.Reading.{node-length, link-length, bytes-length}
 use Rattle.sheet.specs.Held.{held_at, held, sheet_said, patched, Filled, WriteAsked, FractionsWritten}
 use Rattle.sheet.specs.declared.SheetHeld.{SheetHeld}
 use Rattle.sheet.proofs.Facts.{held-length}
+
+-- ---- the copy
+copied_more : (i : ℕ) (b d : List ℕ) → i < length b → length b ≤ length d → set (take i b ++ drop i d) i (get_or b i 0) ≡ take (i + 1) b ++ drop (i + 1) d
+copied_more i b d h r =
+    let inside : i < length d = omega arith in
+    let short : i ≤ length b = omega arith in
+    rw (add-one, drop-cons d i 0 inside, take-suc b i 0 h)
+    (set_at (take i b) (get_or d i 0) (drop (suc i) d) (get_or b i 0) i (length-take-le i b short)
+    ∙ sym (append_snoc (take i b) (get_or b i 0) (drop (suc i) d)))
+
+-- the loop that copies, at index i
+pub record Copying (b old new : List ℕ) (i : ℕ) : Type 0 where
+  pub within : i ≤ length b
+  pub same : length new ≡ length old
+  pub is : new ≡ take i b ++ drop i old
+
+module _ {b old : List ℕ} where
+  pub copying_none : Copying b old old 0
+  copying_none = record { within = omega arith; same = refl; is = refl }
+
+  module _ {new : List ℕ} {i : ℕ} (h : Copying b old new i) where
+    pub copying_more : {x : ℕ} → x ≡ get_or b i 0 → i < length b → length b ≤ length old → Copying b old (set new i x) (i + 1)
+    copying_more e p room = rw e (record {
+      within = omega (arith, p);
+      same = length-set new i (get_or b i 0) ∙ h.same;
+      is = ap (λ (l : List ℕ). set l i (get_or b i 0)) h.is ∙ copied_more i b old p room;
+    })
+
+    pub copying_all : length b ≤ i → new ≡ b ++ drop (length b) old
+    copying_all p = let z : i ≡ length b = omega (arith, h.within) in rw (z, take_all (length b) b (omega arith)) at h.is
 
 -- a word patched in behind a front
 patched-at : (o : ℕ) (front w v behind : List ℕ) {d : List ℕ} → length front ≡ o → length w ≡ length v → d ≡ front ++ (v ++ behind)

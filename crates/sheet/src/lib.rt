@@ -1,7 +1,7 @@
 // A sheet's records, read from its bytes into columns that the caller lends.
 #![tactic(auto)]
 
-ghost use Rattle.std.specs.Prelude.{◌≡◌, ◌&&◌, ◌+◌, ◌*◌, ◌≤◌, ◌<◌, length, get_or, leb, eqb, take, IfOk, Err};
+ghost use Rattle.std.specs.Prelude.{◌≡◌, ◌&&◌, ◌+◌, ◌*◌, ◌≤◌, ◌<◌, ◌++◌, length, get_or, leb, eqb, take, drop, IfOk, Err};
 ghost use Rattle.rules.specs.Bytes.{four};
 ghost use Rattle.rules.specs.Check.{word_at, read, record_at, head_right, head_fields, head_at, node_at, nodes_from, in_range, link_fields, item_at, sheet_at, sheet_alone};
 ghost use Rattle.sheet.specs.Held.{no_columns, read_said, kind_number, head_said, link_said, item_said, key_of, LinkRoom, TakenHeld, LinksHeld, Lent, SheetGiven, patched, Filled, WriteAsked, FractionsWritten};
@@ -320,12 +320,22 @@ fn put_fractions(start: usize, count: usize, fraction: &[u32; 512], out: &mut [u
     }
 }
 
+// Copies b over the front of out. A loop, since `copy_from_slice` calls memmove: the archive for C would need one more name from outside.
+fn copy_front(b: &[u8], out: &mut [u8])
+    requires { length b.now ≤ length out.old }
+    ensures { out.new ≡ b.now ++ drop (length b.now) out.old }
+{
+    for (i, &x) in b.iter().enumerate() {
+        out[i] = x;
+    }
+}
+
 // Writes the sheet of b with these fractions in the place of its own; what lies behind it in out stays.
 pub fn write_fractions(b: &[u8], h: SheetHeld, fraction: &[u32; 512], out: &mut [u8])
     requires { WriteAsked h b.now out.old }
     ensures { FractionsWritten h b.now fraction.now out.old out.new }
 {
-    out[..b.len()].copy_from_slice(b);
+    copy_front(b, out);
     let start = 7 + 6 * usize::from(h.head.nodes);
     put_fractions(start, h.links, fraction, out);
 }
