@@ -17,7 +17,7 @@ use Rattle.rules.proofs.Lists.{get_or_in, in_keep, keep-map, total_le, total_mul
 use Rattle.rules.proofs.Desk.{cut_by_le}
 use Rattle.rules.proofs.Local.{delay_local, blocked_local}
 use Rattle.desk.specs.Ways.{told_of, way_of, ways_from, ways_of, desk_with, sum_of, Row}
-use Rattle.desk.specs.Work.{way_at, cut_at}
+use Rattle.desk.specs.Work.{way_at, Held, cut_at}
 
 -- ---- a word's number; 0 says what it should without a test
 pub delay_is : (x : ℕ) → delay_told (told_of x) ≡ x / 4
@@ -92,6 +92,16 @@ total-take f (suc j) (p ∷ ps) = omega (arith, total-take f j ps)
 module _ {ls xs ks ps : List ℕ} (r : Row ls xs ks ps) where
   pub fraction-small : (p : ℕ) → get_or xs p 0 ≤ whole
   fraction-small p = omega (arith, r.parts, part_le xs p)
+
+  pub held : {p : ℕ} → p < length xs → Held ls xs ks p
+  held {p} h = record {
+    lines = r.lines;
+    words = r.words;
+    inside = h;
+    line_small = r.line_small p;
+    fraction_small = fraction-small p;
+    told_small = r.told-small p;
+  }
 
   -- a flowing place is one of the row, and flows
   pub flows-at : (j : ℕ) → j < length ps → (get_or ps j 0 < length xs) × (0 < get_or xs (get_or ps j 0) 0)

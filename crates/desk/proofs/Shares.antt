@@ -23,9 +23,9 @@ use Rattle.rules.proofs.Tests.{known, clash, eqb_self}
 use Rattle.rules.proofs.Lists.{get_or_in, in_keep, keep_in, map_eq, total-keep, total-map, total_but, below_length, below_in, table_at}
 use Rattle.rules.proofs.Desk.{cut_by_le, flowing_allowed, best_is, BestIs}
 use Rattle.desk.specs.Ways.{ways_of, desk_with, Row, Rises}
-use Rattle.desk.specs.Work.{way_at, choice_at, lowest, cut_at, shorn, Shorn}
+use Rattle.desk.specs.Work.{way_at, Held, choice_at, lowest, cut_at, shorn, Shorn}
 use Rattle.desk.specs.declared.row.Choice.{Choice}
-use Rattle.desk.proofs.Places.{way_to, ways_are, read_back, fraction-small, flow-small, cost-top, total_more, cut_le}
+use Rattle.desk.proofs.Places.{way_to, ways_are, read_back, fraction-small, flows-at, flow-small, cost-top, total_more, cut_le}
 use Rattle.desk.proofs.Choices.{ChoiceIs, choice-best, chosen-inside}
 
 -- ---- a list whose every place is below those after it
@@ -121,8 +121,18 @@ module _ {s t c : ℕ} {ls xs ks ps : List ℕ} {i g : ℕ} {ys : List ℕ} (r :
     fresh : get_or ys (get_or ps i 0) 0 ≡ get_or xs (get_or ps i 0) 0
     fresh = rw h.left (shorn-other (cut_at s t c ls xs ks) xs (get_or ps i 0) (take i ps) (λ q m e. omega (arith, taken_below ps i (rw r.flow (flowing_rising xs)) p m, e)))
 
-    pub fresh-small : get_or ys (get_or ps i 0) 0 ≤ whole
-    fresh-small = omega (arith, fresh, fraction-small r (get_or ps i 0))
+    -- and is read there
+    pub cutting_held : Held ls ys ks (get_or ps i 0)
+    cutting_held =
+        let size : length ys ≡ length xs = ap length h.left ∙ length-shorn (cut_at s t c ls xs ks) xs (take i ps) in
+        record {
+          lines = omega (arith, r.lines, size);
+          words = omega (arith, r.words, size);
+          inside = omega (arith, (flows-at r i p).0, size);
+          line_small = r.line_small (get_or ps i 0);
+          fraction_small = omega (arith, fresh, fraction-small r (get_or ps i 0));
+          told_small = r.told-small (get_or ps i 0);
+        }
 
     pub cutting_more : {v f k : ℕ} {w : Way} → w ≡ way_at ls ys ks (get_or ps i 0) → v ≡ cut_by s t (cost w - c) w.fraction → f ≡ w.fraction - v → k ≡ g + v
         → Cutting s t c ls xs ks ps (i + 1) (set ys (get_or ps i 0) f) k

@@ -1,7 +1,7 @@
 -- How the code works a row out: place by place, without looking at the far nodes.
-use Rattle.std.specs.Prelude.{ℕ, ◌+◌, ◌-◌, ◌*◌, ◌≤◌, ◌≡◌, cond, ◌&&◌, List, [], ◌∷◌, get_or, set, leb, eqb}
+use Rattle.std.specs.Prelude.{ℕ, ◌+◌, ◌-◌, ◌*◌, ◌/◌, ◌≤◌, ◌<◌, ◌≡◌, cond, ◌&&◌, List, [], ◌∷◌, length, get_or, set, leb, eqb}
 use Rattle.rules.specs.Lists.{total}
-use Rattle.rules.specs.Sheet.{whole, largest_delay}
+use Rattle.rules.specs.Sheet.{whole, largest_delay, largest_stored}
 use Rattle.rules.specs.Desk.{Way, mark_told, cost, cut_by}
 use Rattle.desk.specs.Ways.{way_of}
 use Rattle.desk.specs.declared.way.WayHeld.{WayHeld}
@@ -14,6 +14,15 @@ way_said w = way_of 0 w.line.0 w.fraction.0 w.word.0
 -- the way at place p of lines, fractions and words
 abbrev pub way_at : List ℕ → List ℕ → List ℕ → ℕ → Way
 way_at ls xs ks p = way_of 0 (get_or ls p 0) (get_or xs p 0) (get_or ks p 0)
+
+-- at place p stand a line, a fraction and a word, each within what the rules allow
+pub record Held (ls xs ks : List ℕ) (p : ℕ) : Type 0 where
+  pub lines : length ls ≡ length xs
+  pub words : length ks ≡ length xs
+  pub inside : p < length xs
+  pub line_small : get_or ls p 0 ≤ 1048576
+  pub fraction_small : get_or xs p 0 ≤ whole
+  pub told_small : get_or ks p 0 / 4 ≤ largest_stored
 
 -- more than any candidate costs
 abbrev pub beyond : ℕ

@@ -4,7 +4,7 @@ ghost use Rattle.rules.specs.Lists.{total, exists, below};
 ghost use Rattle.rules.specs.Sheet.{whole, largest_step, largest_delay};
 ghost use Rattle.rules.specs.Desk.{weighed, blocks};
 ghost use Rattle.desk.specs.Ways.{Row};
-ghost use Rattle.desk.specs.Work.{way_said, way_at, choice, choice_at, lower, lowest, cut_at, Shorn};
+ghost use Rattle.desk.specs.Work.{way_said, way_at, Held, choice, choice_at, lower, lowest, cut_at, Shorn};
 
 use crate::Told;
 use crate::way::{BEYOND, DelaySum, WayHeld};
@@ -18,6 +18,18 @@ pub struct RowLent<'a> {
     pub inbox: &'a [u32],
     pub flow: &'a [u16],
     ghost row: { Row line.now fraction.now inbox.now flow.now },
+}
+
+// The way at place p. The one reader of a row's slices; on slices, since while a row is cut its fractions are not a row's.
+fn way_at(line: &[u32], fraction: &[u32], inbox: &[u32], p: usize) -> WayHeld
+    requires { Held line.now fraction.now inbox.now p }
+    ensures { way_said result ≡ way_at line.now fraction.now inbox.now p }
+{
+    WayHeld {
+        line: Delay(line[p]),
+        fraction: Fraction(fraction[p]),
+        word: Told(inbox[p]),
+    }
 }
 
 // A link that may be the best: its cost, with its barrier, and its place.
@@ -46,11 +58,7 @@ impl RowLent<'_> {
         requires { p < length self.now.fraction.now }
         ensures { way_said result ≡ way_at self.now.line.now self.now.fraction.now self.now.inbox.now p }
     {
-        WayHeld {
-            line: Delay(self.line[p]),
-            fraction: Fraction(self.fraction[p]),
-            word: Told(self.inbox[p]),
-        }
+        way_at(self.line, self.fraction, self.inbox, p)
     }
 
     // The node's own delay, MD.
@@ -111,11 +119,7 @@ pub fn cut_row(
     let mut all = Fraction(0);
     for &p in flow {
         let i = p as usize;
-        let way = WayHeld {
-            line: Delay(line[i]),
-            fraction: Fraction(fraction[i]),
-            word: Told(inbox[i]),
-        };
+        let way = way_at(line, fraction, inbox, i);
         let cut = way.cut(s, t, least);
         let left = way.fraction - cut;
         fraction[i] = left.0;
